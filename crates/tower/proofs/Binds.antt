@@ -1,0 +1,7 @@
+-- Steps that may find nothing.
+use Rattle.std.proofs.Common.{◌≡◌, Option, Some, None, option_and_then, refl}
+
+-- where both steps found something, the first found what the second went on from
+pub bind_some : {A B : Type 0} (f : A → Option B) (found : Option A) (y : B) → option_and_then f found ≡ Some y → (x : A) × (found ≡ Some x) × (f x ≡ Some y)
+bind_some f None y h = cc
+bind_some f (Some x) y h = (x, refl, h)

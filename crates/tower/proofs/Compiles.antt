@@ -1,0 +1,76 @@
+-- The defined file of a program can be trusted.
+use Rattle.std.proofs.Common.{◌≡◌, ◌∙◌, sym, subst, ℕ, ◌+◌, ◌<◌, ◌≤◌, Bool, true, false, List, [], ◌∷◌, length, map, Option, Some, None, arith, refl}
+use Rattle.tw_gate.specs.declared.gate.Level.TheVariants as levels
+use Rattle.tw_gate.specs.Gates.{PlainGate, X, directed, inverse}
+use Rattle.tw_gate.specs.Weight.{t_count}
+use Rattle.tw_gatetext.specs.Valid.{FitsWires, IsValid}
+use Rattle.tw_gatetext.proofs.Bounds.{file_text-tells}
+use Rattle.tw_types.specs.declared.widths.Widths.{Widths}
+use Rattle.tw_state.specs.Programs.{Function}
+use Rattle.tw_frames.specs.Layout.{layout_of}
+use Rattle.tw_lower.specs.Circuits.{and_gates, function_gates}
+use Rattle.tw_lower.specs.Correct.{IsConjunction}
+use Rattle.tw_lower.proofs.Implemented.{function_gates-conjunction, inverse-conjunction, implements}
+use Rattle.tw_lower.proofs.Places.{places, wires-within, t_count-function_gates}
+use Rattle.tower.specs.declared.options.Options.{Options}
+use Rattle.tower.specs.Form.{Form, is_right, parameters_of, boolean, function_of}
+use Rattle.tower.specs.DefinedFile.{file_of}
+use Rattle.tower.specs.Headline.{IsCompiled}
+use Rattle.tower.proofs.Conjunctions.{conjunction, t_count-directed}
+
+-- both directions are the same gates: loads, a flip, and the loads undone in reverse order
+directed-conjunction : (widths : Widths) {function : Function} {left right : List ℕ} (inverse : Bool) → IsConjunction function left right → directed inverse (function_gates widths [] function) ≡ function_gates widths [] function
+directed-conjunction widths true is = inverse-conjunction widths [] is
+directed-conjunction widths false is = refl
+
+-- the five gates are valid where the operands lie below the result, and the scratch wires behind it
+valid_gates : (left right result scratch wires : ℕ) → left < result → right < result → scratch ≡ result + 1 → wires ≡ result + 3 → wires ≤ 2053 →
+    IsValid (record { level = levels.Mcx; wires = wires; t_count = t_count (and_gates left right result scratch); gates = and_gates left right result scratch })
+valid_gates left right result scratch wires left_below right_below behind all few =
+    let load_left : FitsWires wires (X (left ∷ []) scratch) = (tt, ((λ same. omega arith), tt), (omega arith, tt), omega arith) in
+    let load_right : FitsWires wires (X (right ∷ []) (scratch + 1)) = (tt, ((λ same. omega arith), tt), (omega arith, tt), omega arith) in
+    let flip_result : FitsWires wires (X (scratch ∷ (scratch + 1) ∷ []) result) =
+    ((omega arith, tt), ((λ same. omega arith), ((λ same. omega arith), tt)), (omega arith, (omega arith, tt)), omega arith) in
+    record {
+      some_wires = omega arith;
+      few_wires = omega arith;
+      few_gates = omega arith;
+      fit_level = (omega arith, (omega arith, (omega arith, (omega arith, (omega arith, tt)))));
+      fit_wires = (load_left, (load_right, (flip_result, (load_right, (load_left, tt)))));
+      counted = refl;
+    }
+
+valid_file : (widths : Widths) (function : Function) (inverse : Bool) (gates : List PlainGate) → directed inverse (function_gates widths [] function) ≡ gates →
+    IsValid (record { level = levels.Mcx; wires = (layout_of widths [] function).wires; t_count = t_count gates; gates = gates }) → IsValid (file_of widths inverse function)
+valid_file widths function inverse gates same valid =
+    subst (λ (gates : List PlainGate). IsValid (record { level = levels.Mcx; wires = (layout_of widths [] function).wires; t_count = t_count gates; gates = gates })) (sym same) valid
+
+valid : (widths : Widths) (inverse : Bool) {function : Function} {left right : List ℕ} → IsConjunction function left right → widths.addr ≤ 8 → length function.parameters ≤ 2 → IsValid (file_of widths inverse function)
+valid widths inverse {function} is narrow few =
+    let at = places widths is in
+    let within = wires-within widths at narrow few in
+    valid_file widths function inverse _ (directed-conjunction widths inverse is ∙ function_gates-conjunction widths [] is)
+    (valid_gates _ _ _ _ _ at.left_below at.right_below at.scratch_at at.wires_at within)
+
+parameters-few : (form : Form) → length (function_of form).parameters ≤ 2
+parameters-few form = by_second form.first form.second
+  where
+    by_second : (first : List ℕ) (second : Option (List ℕ)) → length (map boolean (parameters_of first second)) ≤ 2
+    by_second first None = omega arith
+    by_second first (Some second) = omega arith
+
+-- the defined file of a program can be trusted
+pub compiled : (options : Options) (form : Form) → is_right form ≡ true → options.widths.addr ≤ 8 → IsCompiled options (function_of form) (file_of options.widths options.inverse (function_of form))
+compiled options form right narrow =
+    let is = conjunction form right in
+    let fine = valid options.widths options.inverse is narrow (parameters-few form) in
+    record {
+      defined = refl;
+      valid = fine;
+      only_file = λ other rest more fits same. (file_text-tells other _ rest more fits fine same).0;
+      plain = function_gates options.widths [] (function_of form);
+      plain_file = refl;
+      direction = refl;
+      implements = implements is;
+      t_count = t_count-directed options.inverse _ ∙ t_count-function_gates options.widths [] is;
+    }

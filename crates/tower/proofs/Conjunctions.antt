@@ -1,0 +1,139 @@
+-- A program of the form is a conjunction of two of its parameters, and its file in numbers.
+use Rattle.std.proofs.Common.{◌≡◌, ◌≢◌, ◌∙◌, ap, sym, ℕ, suc, ◌+◌, ◌-◌, ◌*◌, ◌^◌, Bool, true, false, not, ◌||◌, cond, if◌then◌else◌, List, [], ◌∷◌, ◌++◌, length, map, Option, Some, None, Contains, arith, refl}
+use Rattle.std.specs.Str.{bytes_eq}
+use Rattle.std.specs.List.{AllByRecursion}
+use Rattle.std.proofs.lemmas.List.{length-map}
+use Rattle.std.proofs.lemmas.Slice.Eq.{bytes_eq-Decides}
+use Rattle.tw_gate.specs.declared.gate.Level.TheVariants as levels
+use Rattle.tw_gate.specs.Gates.{PlainGate, directed}
+use Rattle.tw_gate.specs.Weight.{t_count}
+use Rattle.tw_gate.proofs.Inverse.{t_count-inverse}
+use Rattle.tw_gatetext.specs.Text.{File}
+use Rattle.tw_types.specs.declared.widths.Widths.{Widths}
+use Rattle.tw_state.specs.States.{Name}
+use Rattle.tw_frames.specs.Layout.{layout_of, wire_from, wire_of}
+use Rattle.tw_lower.specs.Circuits.{and_gates, function_gates}
+use Rattle.tw_lower.specs.Correct.{IsConjunction}
+use Rattle.tw_lower.proofs.Implemented.{function_gates-conjunction}
+use Rattle.tw_lower.proofs.Places.{places, t_count-function_gates}
+use Rattle.tower.specs.Form.{Form, is_name, is_among, parameters_of, are_names, is_right, boolean, function_of}
+use Rattle.tower.specs.DefinedFile.{file_of}
+use Rattle.tower.proofs.Bools.{and_parts}
+
+-- what the test of a form says
+record Rightness (form : Form) : Type 0 where
+  pub fresh : not (is_among form.result (parameters_of form.first form.second)) ≡ true
+  pub left_known : is_among form.left (parameters_of form.first form.second) ≡ true
+  pub right_known : is_among form.right (parameters_of form.first form.second) ≡ true
+
+rightness : (form : Form) → is_right form ≡ true → Rightness form
+unfolding is_right
+rightness form is =
+    let parts = and_parts (are_names (form.result ∷ parameters_of form.first form.second)) _ is in
+    let names = and_parts (is_name form.result) _ parts.0 in
+    let operands = and_parts (is_among form.left (parameters_of form.first form.second)) _ parts.1 in
+    record {
+      fresh = (and_parts (not (is_among form.result (parameters_of form.first form.second))) _ names.1).0;
+      left_known = operands.0;
+      right_known = operands.1;
+    }
+
+-- a name that is among these is one of them
+known : (name : Name) (names : List Name) → is_among name names ≡ true → Contains (map (λ parameter. parameter.name) (map boolean names)) name
+known name [] is = cc
+known name (other ∷ names) is = by_test (bytes_eq name other) refl is (known name names)
+  where
+    by_test : (k : Bool) → bytes_eq name other ≡ k → (k || is_among name names) ≡ true → (is_among name names ≡ true → Contains (map (λ parameter. parameter.name) (map boolean names)) name) →
+        Contains (map (λ parameter. parameter.name) (map boolean (other ∷ names))) name
+    by_test true e h later = (0, omega arith, sym ((bytes_eq-Decides name other).0 e))
+    by_test false e h later = let found = later h in (suc found.0, omega arith, found.2)
+
+-- a name that is not among these is none of them
+fresh_from : (name : Name) (names : List Name) → not (is_among name names) ≡ true → AllByRecursion (λ parameter. parameter.name ≢ name) (map boolean names)
+fresh_from name [] is = tt
+fresh_from name (other ∷ names) is = by_test (bytes_eq name other) refl is (fresh_from name names)
+  where
+    by_test : (k : Bool) → bytes_eq name other ≡ k → not (k || is_among name names) ≡ true → (not (is_among name names) ≡ true → AllByRecursion (λ parameter. parameter.name ≢ name) (map boolean names)) →
+        AllByRecursion (λ parameter. parameter.name ≢ name) (map boolean (other ∷ names))
+    by_test true e h later = cc
+    by_test false e h later = ((λ same. let is = (bytes_eq-Decides name other).1 (sym same) in cc), later h)
+
+-- the program is a conjunction
+pub conjunction : (form : Form) → is_right form ≡ true → IsConjunction (function_of form) form.left form.right
+conjunction form is =
+    let right = rightness form is in
+    record {
+      body = refl;
+      fresh = fresh_from form.result _ right.fresh;
+      left_known = known form.left _ right.left_known;
+      right_known = known form.right _ right.right_known;
+    }
+
+same_name : (name other : Name) → is_among name (other ∷ []) ≡ true → bytes_eq other name ≡ true
+same_name name other is = by_test (bytes_eq name other) refl is
+  where
+    by_test : (k : Bool) → bytes_eq name other ≡ k → (k || false) ≡ true → bytes_eq other name ≡ true
+    by_test true e h = (bytes_eq-Decides other name).1 (sym ((bytes_eq-Decides name other).0 e))
+    by_test false e h = cc
+
+-- the place of a parameter among the first and the second
+abbrev pub place : Name → Name → ℕ
+place first name = if bytes_eq first name then 0 else 1
+
+-- a parameter lies at its place behind the first wire of the parameters
+wire_from-place : (widths : Widths) (from : ℕ) (first : Name) (second : Option Name) (result name : Name) → is_among name (parameters_of first second) ≡ true →
+    wire_from widths from (map boolean (parameters_of first second) ++ boolean result ∷ []) name ≡ from + place first name
+wire_from-place widths from first None result name is = rw (same_name name first is) (omega arith)
+wire_from-place widths from first (Some second) result name is = by_test (bytes_eq name first) (bytes_eq first name) refl refl is
+  where
+    by_test : (k l : Bool) → bytes_eq name first ≡ k → bytes_eq first name ≡ l → (k || is_among name (second ∷ [])) ≡ true →
+        cond l from (wire_from widths (from + 1) (boolean second ∷ boolean result ∷ []) name) ≡ from + cond l 0 1
+    by_test k true e f h = omega arith
+    by_test true false e f h = let is = (bytes_eq-Decides first name).1 (sym ((bytes_eq-Decides name first).0 e)) in cc
+    by_test false false e f h = rw (same_name name second h) refl
+
+-- the numbers of a file in the code are those of the defined file
+pub record IsNumbered (widths : Widths) (form : Form) (arguments left right result scratch wires : ℕ) : Type 0 where
+  pub arguments_at : arguments ≡ widths.addr + (2 ^ widths.addr - 1) * widths.addr
+  pub left_at : left ≡ arguments + place form.first form.left
+  pub right_at : right ≡ arguments + place form.first form.right
+  pub result_at : result ≡ arguments + length (parameters_of form.first form.second)
+  pub scratch_at : scratch ≡ result + 1
+  pub wires_at : wires ≡ scratch + 2
+
+-- a direction keeps the T-count
+pub t_count-directed : (inverse : Bool) (gates : List PlainGate) → t_count (directed inverse gates) ≡ t_count gates
+t_count-directed true gates = t_count-inverse gates
+t_count-directed false gates = refl
+
+same_file : (wires wires' count count' : ℕ) (gates gates' : List PlainGate) → wires ≡ wires' → count ≡ count' → gates ≡ gates' →
+    ◌≡◌ {A = File} (record { level = levels.Mcx; wires = wires; t_count = count; gates = gates }) (record { level = levels.Mcx; wires = wires'; t_count = count'; gates = gates' })
+same_file wires wires' count count' gates gates' e f g = cc
+
+same_gates : (left left' right right' result result' scratch scratch' : ℕ) → left ≡ left' → right ≡ right' → result ≡ result' → scratch ≡ scratch' → and_gates left right result scratch ≡ and_gates left' right' result' scratch'
+same_gates left left' right right' result result' scratch scratch' e f g h = cc
+
+-- the wire of a parameter
+wire_of-place : (widths : Widths) (form : Form) (arguments name_at : ℕ) (name : Name) → arguments ≡ (layout_of widths [] (function_of form)).arguments → is_among name (parameters_of form.first form.second) ≡ true →
+    name_at ≡ arguments + place form.first name → name_at ≡ wire_of widths [] (function_of form) name
+wire_of-place widths form arguments name_at name same is at =
+    at ∙ ap (λ a. a + place form.first name) same ∙ sym (wire_from-place widths (layout_of widths [] (function_of form)).arguments form.first form.second form.result name is)
+
+pub file-numbered : (widths : Widths) (inverse : Bool) (form : Form) (arguments left right result scratch wires : ℕ) → is_right form ≡ true → IsNumbered widths form arguments left right result scratch wires →
+    ◌≡◌ {A = File} (record { level = levels.Mcx; wires = wires; t_count = 7; gates = directed inverse (and_gates left right result scratch) }) (file_of widths inverse (function_of form))
+file-numbered widths inverse form arguments left right result scratch wires is at =
+    let known = rightness form is in
+    let one = conjunction form is in
+    let regions = places widths one in
+    let same : arguments ≡ (layout_of widths [] (function_of form)).arguments = at.arguments_at ∙ sym regions.arguments_at in
+    let many : length (map boolean (parameters_of form.first form.second)) ≡ length (parameters_of form.first form.second) = length-map (parameters_of form.first form.second) boolean in
+    let same_result : result ≡ (layout_of widths [] (function_of form)).result = at.result_at ∙ ap (λ a. a + length (parameters_of form.first form.second)) same ∙ ap (λ (n : ℕ). (layout_of widths [] (function_of form)).arguments + n) (sym many) ∙ sym regions.result_at in
+    let same_scratch : scratch ≡ (layout_of widths [] (function_of form)).scratch = at.scratch_at ∙ ap (λ r. r + 1) same_result ∙ sym regions.scratch_at in
+    let same_wires : wires ≡ (layout_of widths [] (function_of form)).wires = omega (arith, at.wires_at, at.scratch_at, same_result, regions.wires_at) in
+    let gates = same_gates _ _ _ _ _ _ _ _
+    (wire_of-place widths form arguments left form.left same known.left_known at.left_at)
+    (wire_of-place widths form arguments right form.right same known.right_known at.right_at)
+    same_result same_scratch ∙ sym (function_gates-conjunction widths [] one) in
+    same_file wires _ 7 _ _ _ same_wires
+    (sym (t_count-directed inverse (function_gates widths [] (function_of form)) ∙ t_count-function_gates widths [] one))
+    (ap (directed inverse) gates)

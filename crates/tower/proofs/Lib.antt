@@ -1,0 +1,13 @@
+pub mod Bools
+pub mod Numbers
+pub mod Steps
+pub mod Binds
+pub mod Asking
+pub mod Asked
+pub mod Spelled
+pub mod Recognized
+pub mod Conjunctions
+pub mod Endings
+pub mod Answering
+pub mod Compiles
+pub mod Promises

@@ -1,0 +1,10 @@
+pub mod Words
+pub mod ReadingWords
+pub mod Form
+pub mod ReadingForm
+pub mod Seen
+pub mod DefinedFile
+pub mod Number
+pub mod Answer
+pub mod Ending
+pub mod Headline

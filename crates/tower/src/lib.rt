@@ -1,0 +1,17 @@
+//! The compiler as one call, from words and a source of bytes to a sink of bytes and a status.
+#![tactic(auto)]
+
+mod build;
+mod call;
+mod form;
+mod options;
+mod run;
+mod status;
+#[cfg(test)]
+mod tests;
+mod wires;
+mod words;
+
+pub use call::tower_main;
+pub use status::Status;
+pub use words::Words;

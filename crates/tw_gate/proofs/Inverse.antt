@@ -1,0 +1,46 @@
+-- The inverse of a list of gates.
+use Rattle.std.proofs.Common.{◌≡◌, ◌∙◌, ap, sym, ℕ, ◌+◌, Bool, true, false, cond, List, [], ◌∷◌, ◌++◌, length, refl, append_assoc, arith, length-append}
+use mathlib.Core.List.{append-nil}
+use Rattle.std.specs.List.{AllByRecursion}
+use Rattle.tw_gate.specs.Gates.{PlainGate, X, H, T, Tdg, flipped, all_one, act_gate, act, inverse_gate, inverse, SparesControls}
+use Rattle.tw_gate.specs.Weight.{gate_weight, t_count}
+use Rattle.tw_gate.proofs.Act.{act-append, flipped-flipped, all_one-flipped}
+
+undoes : (controls : List ℕ) (target : ℕ) (bits : List Bool) (k : Bool) → all_one controls bits ≡ k → all_one controls (flipped bits target) ≡ k → act_gate (X controls target) (cond k (flipped bits target) bits) ≡ bits
+undoes controls target bits true before after = rw after (flipped-flipped bits target)
+undoes controls target bits false before after = rw before refl
+
+pub act_gate-inverse : (gate : PlainGate) (bits : List Bool) → SparesControls gate → act_gate (inverse_gate gate) (act_gate gate bits) ≡ bits
+act_gate-inverse (X controls target) bits spares = undoes controls target bits (all_one controls bits) refl (all_one-flipped controls bits target spares)
+act_gate-inverse (H wire) bits spares = refl
+act_gate-inverse (T wire) bits spares = refl
+act_gate-inverse (Tdg wire) bits spares = refl
+
+pub act-inverse : (gates : List PlainGate) (bits : List Bool) → AllByRecursion SparesControls gates → act (inverse gates) (act gates bits) ≡ bits
+act-inverse [] bits spare = refl
+act-inverse (gate ∷ gates) bits spare =
+    act-append (inverse gates) (inverse_gate gate ∷ []) (act gates (act_gate gate bits))
+    ∙ ap (act_gate (inverse_gate gate)) (act-inverse gates (act_gate gate bits) spare.1)
+    ∙ act_gate-inverse gate bits spare.0
+
+pub inverse-append : (xs ys : List PlainGate) → inverse (xs ++ ys) ≡ inverse ys ++ inverse xs
+inverse-append [] ys = sym (append-nil (inverse ys))
+inverse-append (gate ∷ xs) ys = rw (inverse-append xs ys, append_assoc)
+
+pub length-inverse : (gates : List PlainGate) → length (inverse gates) ≡ length gates
+length-inverse [] = refl
+length-inverse (gate ∷ gates) = omega (arith, length-append (inverse gates) (inverse_gate gate ∷ []), length-inverse gates)
+
+pub t_count-append : (xs ys : List PlainGate) → t_count (xs ++ ys) ≡ t_count xs + t_count ys
+t_count-append [] ys = omega arith
+t_count-append (gate ∷ xs) ys = omega (arith, t_count-append xs ys)
+
+pub gate_weight-inverse : (gate : PlainGate) → gate_weight (inverse_gate gate) ≡ gate_weight gate
+gate_weight-inverse (X controls target) = refl
+gate_weight-inverse (H wire) = refl
+gate_weight-inverse (T wire) = refl
+gate_weight-inverse (Tdg wire) = refl
+
+pub t_count-inverse : (gates : List PlainGate) → t_count (inverse gates) ≡ t_count gates
+t_count-inverse [] = refl
+t_count-inverse (gate ∷ gates) = omega (arith, t_count-append (inverse gates) (inverse_gate gate ∷ []), t_count-inverse gates, gate_weight-inverse gate)

@@ -1,0 +1,114 @@
+-- Gates as plain data, and what a list of them does to bits.
+use Rattle.std.specs.Prelude.{◌≡◌, ℕ, zero, suc, Bool, true, false, not, ◌&&◌, if◌then◌else◌, List, [], ◌∷◌, ◌++◌, refl}
+use Rattle.tw_gate.specs.declared.gate.Gate.{Gate}
+use Rattle.tw_gate.specs.declared.gate.Gate.TheVariants as given
+
+-- a gate, with its controls and its target or its wire
+pub data PlainGate : Type 0 where
+  X : (controls : List ℕ) (target : ℕ) → PlainGate
+  H : (wire : ℕ) → PlainGate
+  T : (wire : ℕ) → PlainGate
+  Tdg : (wire : ℕ) → PlainGate
+
+-- a gate of the code, without where its controls lie in memory
+abbrev pub plain : Gate → PlainGate
+plain (given.X controls target) = X controls.now target
+plain (given.H wire) = H wire
+plain (given.T wire) = T wire
+plain (given.Tdg wire) = Tdg wire
+
+-- the bit of a wire; a wire past the end is 0
+abbrev pub bit_at : List Bool → ℕ → Bool
+bit_at [] wire = false
+bit_at (b ∷ bits) zero = b
+bit_at (b ∷ bits) (suc wire) = bit_at bits wire
+
+-- the bits with one of them flipped; a wire past the end flips none
+abbrev pub flipped : List Bool → ℕ → List Bool
+flipped [] wire = []
+flipped (b ∷ bits) zero = not b ∷ bits
+flipped (b ∷ bits) (suc wire) = b ∷ flipped bits wire
+
+-- whether all of these wires are 1
+abbrev pub all_one : List ℕ → List Bool → Bool
+all_one [] bits = true
+all_one (wire ∷ wires) bits = bit_at bits wire && all_one wires bits
+
+-- an X gate flips its target exactly where all its controls are 1; the others move no basis state here
+abbrev pub act_gate : PlainGate → List Bool → List Bool
+act_gate (X controls target) bits = if all_one controls bits then flipped bits target else bits
+act_gate _ bits = bits
+
+-- the gates, in order
+abbrev pub act : List PlainGate → List Bool → List Bool
+act [] bits = bits
+act (gate ∷ gates) bits = act gates (act_gate gate bits)
+
+-- the inverse of a gate: T and its inverse change places, the others undo themselves
+abbrev pub inverse_gate : PlainGate → PlainGate
+inverse_gate (T wire) = Tdg wire
+inverse_gate (Tdg wire) = T wire
+inverse_gate gate = gate
+
+-- the inverse of a list: the inverse gates in reverse order
+abbrev pub inverse : List PlainGate → List PlainGate
+inverse [] = []
+inverse (gate ∷ gates) = inverse gates ++ inverse_gate gate ∷ []
+
+-- the number is none of these
+abbrev pub IsNone : ℕ → List ℕ → Type 0
+IsNone n [] = Unit {0}
+IsNone n (a ∷ rest) = ¬ (n ≡ a) × IsNone n rest
+
+-- the target of an X gate is none of its controls
+abbrev pub SparesControls : PlainGate → Type 0
+SparesControls (X controls target) = IsNone target controls
+SparesControls _ = Unit {0}
+
+-- the gates of a list, or where the Bool is true those of its inverse
+abbrev pub directed : Bool → List PlainGate → List PlainGate
+directed true gates = inverse gates
+directed false gates = gates
+
+-- five gates that flip wire 4 exactly where wires 2 and 5 differ and wires 3 and 6 differ
+abbrev pub example : List PlainGate
+example =
+    X (2 ∷ []) 5
+    ∷ X (3 ∷ []) 6
+    ∷ X (5 ∷ 6 ∷ []) 4
+    ∷ X (3 ∷ []) 6
+    ∷ X (2 ∷ []) 5
+    ∷ []
+
+pub act-example : act example (true ∷ false ∷ true ∷ true ∷ false ∷ false ∷ false ∷ []) ≡ true ∷ false ∷ true ∷ true ∷ true ∷ false ∷ false ∷ []
+act-example = refl
+
+pub act-inverse-example : act (inverse example) (true ∷ false ∷ true ∷ true ∷ true ∷ false ∷ false ∷ []) ≡ true ∷ false ∷ true ∷ true ∷ false ∷ false ∷ false ∷ []
+act-inverse-example = refl
+
+pub inverse-t_h : inverse (T 0 ∷ H 1 ∷ []) ≡ H 1 ∷ Tdg 0 ∷ []
+inverse-t_h = refl
+
+pub bit_at-inside : bit_at (false ∷ true ∷ []) 1 ≡ true
+bit_at-inside = refl
+
+pub bit_at-past : bit_at (false ∷ true ∷ []) 2 ≡ false
+bit_at-past = refl
+
+pub all_one-both : all_one (0 ∷ 2 ∷ []) (true ∷ false ∷ true ∷ []) ≡ true
+all_one-both = refl
+
+pub all_one-not : all_one (0 ∷ 1 ∷ []) (true ∷ false ∷ true ∷ []) ≡ false
+all_one-not = refl
+
+pub flipped_inside : flipped (true ∷ false ∷ true ∷ []) 2 ≡ true ∷ false ∷ false ∷ []
+flipped_inside = refl
+
+pub flipped_past : flipped (true ∷ false ∷ []) 2 ≡ true ∷ false ∷ []
+flipped_past = refl
+
+pub directed-inverse : directed true (T 0 ∷ H 1 ∷ []) ≡ H 1 ∷ Tdg 0 ∷ []
+directed-inverse = refl
+
+pub directed-same : directed false (T 0 ∷ H 1 ∷ []) ≡ T 0 ∷ H 1 ∷ []
+directed-same = refl

@@ -1,0 +1,5 @@
+pub mod Bounds
+pub mod Delimited
+pub mod Examples
+pub mod Lists
+pub mod OneToOne

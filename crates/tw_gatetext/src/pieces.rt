@@ -1,0 +1,108 @@
+//! The pieces of a gate file's text, put together on the stack.
+ghost use Rattle.std.specs.Prelude.{◌≡◌, ℕ, ◌+◌, ◌*◌, ◌≤◌, [], ◌∷◌, ◌++◌, length, codes, decimal};
+ghost use Rattle.arrayvec.specs.ArrayString.{array_string_len};
+ghost use Rattle.tw_gate.specs.Gates.{plain, X};
+ghost use Rattle.tw_gatetext.specs.Text.{level_word, x_words, spaced, line, header, HasFewControls};
+
+use arrayvec::ArrayString;
+use itoa::Buffer;
+use tw_gate::{Gate, Level};
+
+/// The longest line, of 64 controls, takes fewer bytes.
+pub type Line = ArrayString<1024>;
+
+/// The five header lines take fewer bytes.
+pub type Header = ArrayString<256>;
+
+/// The header lines of a file.
+pub fn header(level: Level, wires: u32, gates: u64, t_count: u64) -> Header
+    ensures { result.bytes ≡ header level wires gates t_count }
+{
+    let mut text = Header::new();
+    text.push_str("tower-gates 1\nlevel ");
+    text.push_str(level_word(level));
+    text.push_str("\nwires ");
+    text.push_str(Buffer::new().format(wires));
+    text.push_str("\ngates ");
+    text.push_str(Buffer::new().format(gates));
+    text.push_str("\nt-count ");
+    text.push_str(Buffer::new().format(t_count));
+    text.push_str("\n");
+    text
+}
+
+fn level_word(level: Level) -> &'static str
+    ensures word { result.now ≡ level_word level }
+    ensures short { length result.now ≤ 3 }
+{
+    match level {
+        Level::Mcx => "mcx",
+        Level::Tof => "tof",
+        Level::T => "t",
+    }
+}
+
+/// The line of a gate.
+pub fn line(gate: &Gate) -> Line
+    requires { HasFewControls (plain gate.now) }
+    ensures { result.bytes ≡ line (plain gate.now) }
+{
+    match *gate {
+        Gate::X { controls, target } => x_line(controls, target),
+        Gate::H(wire) => wire_line("h", wire),
+        Gate::T(wire) => wire_line("t", wire),
+        Gate::Tdg(wire) => wire_line("tdg", wire),
+    }
+}
+
+fn wire_line(word: &str, wire: u32) -> Line
+    requires { length word.now ≤ 3 }
+    ensures { result.bytes ≡ word.now ++ (spaced (wire ∷ []) ++ codes "\n") }
+{
+    let mut line = Line::new();
+    line.push_str(word);
+    push_number(&mut line, wire);
+    line.push_str("\n");
+    line
+}
+
+fn x_line(controls: &[u32], target: u32) -> Line
+    requires { length controls.now ≤ 64 }
+    ensures { result.bytes ≡ line (X controls.now target) }
+{
+    let mut line = Line::new();
+    push_x_words(&mut line, controls.len());
+    for control in controls {
+        push_number(&mut line, *control);
+    }
+    push_number(&mut line, target);
+    line.push_str("\n");
+    line
+}
+
+/// Appends the words that begin the line of an X gate.
+fn push_x_words(line: &mut Line, controls: usize)
+    requires { array_string_len line.old ≤ 100 }
+    ensures text { line.new.bytes ≡ line.old.bytes ++ x_words controls }
+    ensures short { array_string_len line.new ≤ array_string_len line.old + 24 }
+{
+    match controls {
+        0 => line.push_str("x"),
+        1 => line.push_str("cx"),
+        2 => line.push_str("ccx"),
+        _ => {
+            line.push_str("mcx ");
+            line.push_str(Buffer::new().format(controls));
+        }
+    }
+}
+
+/// Appends a number behind a space.
+fn push_number(line: &mut Line, n: u32)
+    requires { array_string_len line.old ≤ 1000 }
+    ensures text { line.new.bytes ≡ line.old.bytes ++ (codes " " ++ decimal n) }
+    ensures short { array_string_len line.new ≤ array_string_len line.old + 11 }
+{
+    line.push_str(" ");
+    line.push_str(Buffer::new().format(n));
+}

@@ -1,0 +1,114 @@
+//! The standard streams of the process, as a source and a sink.
+ghost use Rattle.std.specs.Prelude.{◌≡◌, ℕ, ◌<◌, ◌≤◌, List, [], length, take, Option, None, IfOk, OnErr, is_err, IfSome, if◌then◌else◌};
+ghost use Rattle.tw_io.specs.Devices.{Takes, IsAtEnd, Appends, Rose, next_count};
+
+use crate::outside::{Failed, Sink, Source};
+use std::io::{Read, Stdin, Stdout, Write};
+use std::marker::Model;
+
+/// Standard input. Contracts see its count of faults, and nothing of the bytes.
+#[derive(Drop)]
+pub struct HostSource {
+    stdin: Stdin,
+    faults: u64,
+}
+
+impl Model for HostSource {
+    ghost Value = { ℕ };
+
+    ghost view = { λ source. source.faults };
+}
+
+impl HostSource {
+    /// The source over standard input, with no fault yet.
+    pub fn new(stdin: Stdin) -> HostSource
+        ensures { result ≡ 0 }
+    {
+        HostSource { stdin, faults: 0 }
+    }
+}
+
+impl Source for HostSource {
+    ghost left = { λ _. None };
+
+    ghost faults = { λ count. count };
+
+    /// One read of standard input into the whole of `buf`; each error is a fault.
+    fn read(&mut self, buf: &mut [u8]) -> Result<usize, Failed>
+        requires { 0 < length buf.old }
+        ensures within { IfOk result (λ n. n ≤ length buf.new) }
+        ensures bytes { IfOk result (λ n. Takes None None (take n buf.new)) }
+        ensures end { IfOk result (λ n. n ≡ 0 → IsAtEnd None) }
+        ensures nothing { OnErr result (Takes None None []) }
+        ensures cause { OnErr result (Rose self.old self.new) }
+        ensures steady { self.old ≤ self.new }
+        ensures count { self.new ≡ (if is_err result then next_count self.old else self.old) }
+    {
+        match self.stdin.read(buf) {
+            Ok(count) => Ok(count),
+            Err(_) => {
+                self.faults = self.faults.saturating_add(1);
+                Err(Failed)
+            }
+        }
+    }
+}
+
+/// Standard output. Contracts see its count of faults, and nothing of the bytes.
+#[derive(Drop)]
+pub struct HostSink {
+    stdout: Stdout,
+    faults: u64,
+}
+
+impl Model for HostSink {
+    ghost Value = { ℕ };
+
+    ghost view = { λ sink. sink.faults };
+}
+
+impl HostSink {
+    /// The sink over standard output, with no fault yet.
+    pub fn new(stdout: Stdout) -> HostSink
+        ensures { result ≡ 0 }
+    {
+        HostSink { stdout, faults: 0 }
+    }
+}
+
+impl Sink for HostSink {
+    ghost taken = { λ _. None };
+
+    ghost faults = { λ count. count };
+
+    /// One write to standard output, flushed; each error is a fault, and so is a write that took
+    /// nothing.
+    fn write(&mut self, piece: &[u8]) -> Result<usize, Failed>
+        requires { 0 < length piece.now }
+        ensures some { IfOk result (λ n. 0 < n) }
+        ensures within { IfOk result (λ n. n ≤ length piece.now) }
+        ensures bytes { IfOk result (λ n. Appends None None (take n piece.now)) }
+        ensures nothing { OnErr result (Appends None None []) }
+        ensures cause { OnErr result (Rose self.old self.new) }
+        ensures steady { self.old ≤ self.new }
+        ensures count { self.new ≡ (if is_err result then next_count self.old else self.old) }
+    {
+        match write_and_flush(self.stdout, piece) {
+            Some(count) => Ok(count),
+            None => {
+                self.faults = self.faults.saturating_add(1);
+                Err(Failed)
+            }
+        }
+    }
+}
+
+// The bytes that standard output took and passed on; `None` if it failed or took none.
+fn write_and_flush(mut stdout: Stdout, piece: &[u8]) -> Option<usize>
+    ensures some { IfSome result (λ n. 0 < n) }
+    ensures within { IfSome result (λ n. n ≤ length piece.now) }
+{
+    let count = stdout.write(piece).ok()?;
+    stdout.flush().ok()?;
+    (count > 0).then_some(count)
+}

@@ -1,0 +1,55 @@
+-- The wires and the cost of a function that is one `&&`.
+use Rattle.std.proofs.Common.{◌≡◌, ◌∙◌, ℕ, ◌+◌, ◌-◌, ◌*◌, ◌^◌, ◌≤◌, ◌<◌, List, [], length, ◌∷◌, refl, ap, sym, arith}
+use Rattle.std.proofs.Math.Nat.{pow-le-pow_right}
+use Rattle.std.proofs.lemmas.Nat.{mul-le}
+use Rattle.tw_gate.specs.Weight.{t_count}
+use Rattle.tw_types.specs.declared.widths.Widths.{Widths}
+use Rattle.tw_types.specs.Types.{Target}
+use Rattle.tw_state.specs.States.{Name}
+use Rattle.tw_state.specs.Programs.{Function}
+use Rattle.tw_frames.specs.Layout.{scratch_size, layout_of, wire_of}
+use Rattle.tw_frames.specs.Cost.{cost}
+use Rattle.tw_frames.proofs.Wires.{size-truth, variables_size-length, wire_from-within}
+use Rattle.tw_lower.specs.Circuits.{function_gates}
+use Rattle.tw_lower.specs.Correct.{IsConjunction}
+use Rattle.tw_lower.proofs.Implemented.{function_gates-conjunction}
+
+-- where the variables lie, without targets
+pub record Places (widths : Widths) (function : Function) (left right : Name) : Type 0 where
+  pub arguments_at : (layout_of widths [] function).arguments ≡ widths.addr + (2 ^ widths.addr - 1) * widths.addr
+  pub result_at : (layout_of widths [] function).result ≡ (layout_of widths [] function).arguments + length function.parameters
+  pub scratch_at : (layout_of widths [] function).scratch ≡ (layout_of widths [] function).result + 1
+  pub wires_at : (layout_of widths [] function).wires ≡ (layout_of widths [] function).result + 3
+  pub left_from : (layout_of widths [] function).arguments ≤ wire_of widths [] function left
+  pub left_below : wire_of widths [] function left < (layout_of widths [] function).result
+  pub right_from : (layout_of widths [] function).arguments ≤ wire_of widths [] function right
+  pub right_below : wire_of widths [] function right < (layout_of widths [] function).result
+
+-- the places of the variables
+pub places : (widths : Widths) {function : Function} {left right : Name} → IsConjunction function left right → Places widths function left right
+places widths {function} {left} {right} is =
+    let layout = layout_of widths [] function in
+    let one = size-truth widths function.result.ty in
+    let left_within = wire_from-within widths (function.result ∷ []) left function.parameters is.left_known layout.arguments in
+    let right_within = wire_from-within widths (function.result ∷ []) right function.parameters is.right_known layout.arguments in
+    record {
+      arguments_at = refl;
+      result_at = ap (λ (n : ℕ). layout.arguments + n) (variables_size-length widths function.parameters);
+      scratch_at = ap (λ (n : ℕ). layout.result + n) one;
+      wires_at = omega (arith, one, ap scratch_size is.body);
+      left_from = left_within.0;
+      left_below = left_within.1;
+      right_from = right_within.0;
+      right_below = right_within.1;
+    }
+
+-- the most wires that addresses of 8 bits and two parameters take
+pub wires-within : (widths : Widths) {function : Function} {left right : Name} → Places widths function left right → widths.addr ≤ 8 → length function.parameters ≤ 2 → (layout_of widths [] function).wires ≤ 2053
+wires-within widths at narrow few =
+    let blocks : 2 ^ widths.addr ≤ 256 = pow-le-pow_right {n = 2} (omega arith) narrow in
+    let cells : (2 ^ widths.addr - 1) * widths.addr ≤ 255 * 8 = mul-le (2 ^ widths.addr - 1) widths.addr 255 8 (omega arith) narrow in
+    omega (arith, at.arguments_at, at.result_at, at.wires_at)
+
+-- the circuit's T-count is the cost of the source
+pub t_count-function_gates : (widths : Widths) (targets : List Target) {function : Function} {left right : Name} → IsConjunction function left right → t_count (function_gates widths targets function) ≡ cost function.body
+t_count-function_gates widths targets is = ap t_count (function_gates-conjunction widths targets is) ∙ sym (ap cost is.body)

@@ -1,0 +1,32 @@
+-- What a circuit promises of the function that it was made from.
+use Rattle.std.specs.Prelude.{◌≡◌, ◌≢◌, ℕ, length, List, map, Contains}
+use Rattle.std.specs.List.{AllByRecursion}
+use Rattle.tw_gate.specs.Gates.{PlainGate, act, inverse}
+use Rattle.tw_types.specs.declared.widths.Widths.{Widths}
+use Rattle.tw_types.specs.Types.{Target, block_count}
+use Rattle.tw_state.specs.States.{Name, State}
+use Rattle.tw_state.specs.Programs.{Function, Var, And, Binary, Skip, Then, Let}
+use Rattle.tw_state.specs.Typing.{HasResult}
+use Rattle.tw_state.specs.Renaming.{Permutation, renamed}
+use Rattle.tw_state.specs.Encoding.{encoded_at_start, encoded_at_end}
+
+-- On so many wires, which hold all bits of an encoding, the gates take the encoding of each state on which the function has
+-- a result to the encoding of that result, every other wire zero, and their inverse takes it back. Renaming the blocks
+-- commutes with this.
+pub record Implements (widths : Widths) (targets : List Target) (function : Function) (wires : ℕ) (gates : List PlainGate) : Type 0 where
+  pub at_start : (start end : State) → HasResult widths targets function start end → length (encoded_at_start wires widths targets function start) ≡ wires
+  pub at_end : (start end : State) → HasResult widths targets function start end → length (encoded_at_end wires widths targets function end) ≡ wires
+  pub takes : (start end : State) → HasResult widths targets function start end →
+      act gates (encoded_at_start wires widths targets function start) ≡ encoded_at_end wires widths targets function end
+  pub undoes : (start end : State) → HasResult widths targets function start end →
+      act (inverse gates) (encoded_at_end wires widths targets function end) ≡ encoded_at_start wires widths targets function start
+  pub renames : (pi : Permutation (block_count widths)) (start end : State) → HasResult widths targets function start end →
+      HasResult widths targets function (renamed pi start) (renamed pi end)
+      × (act gates (encoded_at_start wires widths targets function (renamed pi start)) ≡ encoded_at_end wires widths targets function (renamed pi end))
+
+-- the function's result is the `&&` of two of its parameters, and has another name than each of its parameters
+pub record IsConjunction (function : Function) (left right : Name) : Type 0 where
+  pub body : function.body ≡ Then (Let function.result.name (Binary And (Var left) (Var right))) Skip
+  pub fresh : AllByRecursion (λ parameter. parameter.name ≢ function.result.name) function.parameters
+  pub left_known : Contains (map (λ parameter. parameter.name) function.parameters) left
+  pub right_known : Contains (map (λ parameter. parameter.name) function.parameters) right

@@ -1,0 +1,43 @@
+-- How many bits the memory and the variables of a typed state have.
+use Rattle.std.proofs.Common.{◌≡◌, ℕ, ◌+◌, ◌*◌, ◌≤◌, max, Bool, true, false, if◌then◌else◌, List, [], ◌∷◌, length, flat_map, Some, arith, length-append, suc-mul, bytes_eq}
+use Rattle.std.specs.List.{AllByRecursion}
+use Rattle.tw_types.specs.declared.widths.Widths.{Widths}
+use Rattle.tw_types.specs.Types.{Ty, Target, size, block_count, block_size}
+use Rattle.tw_types.specs.Values.{value_bits, number_bits}
+use Rattle.tw_types.proofs.Lengths.{length-number_bits, length-value_bits, length-padded, addr-le-block_size}
+use Rattle.tw_state.specs.States.{Cell, Free, Live, Store, State}
+use Rattle.tw_state.specs.Programs.{Variable}
+use Rattle.tw_state.specs.Typing.{target_type, IsCell, HasVariable, IsTyped}
+use Rattle.tw_state.specs.Encoding.{cell_bits, memory_bits, variable_bits}
+
+-- a target's type fits into a block
+size-le-block_size : (widths : Widths) (targets : List Target) (written : List ℕ) (ty : Ty) → target_type targets written ≡ Some ty → size widths ty ≤ block_size widths targets
+size-le-block_size widths [] written ty known = cc
+size-le-block_size widths (target ∷ targets) written ty known = by (bytes_eq target.written written) known (size-le-block_size widths targets written ty) where
+  by : (test : Bool) → (if test then Some target.ty else target_type targets written) ≡ Some ty → (target_type targets written ≡ Some ty → size widths ty ≤ block_size widths targets) → size widths ty ≤ max (size widths target.ty) (block_size widths targets)
+  by true found deeper = let same : target.ty ≡ ty = cc in rw (← same) (omega arith)
+  by false found deeper = let rest = deeper found in omega arith
+
+-- a cell of the program fills its block
+length-cell_bits : (widths : Widths) (targets : List Target) (cell : Cell) → IsCell widths targets cell → length (cell_bits widths targets cell) ≡ block_size widths targets
+length-cell_bits widths targets (Free next) is =
+    length-padded (block_size widths targets) (number_bits widths.addr next)
+    (rw (length-number_bits widths.addr next) (addr-le-block_size widths targets))
+length-cell_bits widths targets (Live target value) is =
+    length-padded (block_size widths targets) (value_bits widths value)
+    (rw (length-value_bits widths value is.0 is.2) (size-le-block_size widths targets target is.0 is.1))
+
+-- cells of the program fill their blocks
+length-cells_bits : (widths : Widths) (targets : List Target) (cells : List Cell) → AllByRecursion (IsCell widths targets) cells → length (flat_map (cell_bits widths targets) cells) ≡ length cells * block_size widths targets
+length-cells_bits widths targets [] all = omega arith
+length-cells_bits widths targets (cell ∷ cells) all =
+    rw (length-append, length-cell_bits widths targets cell all.0, length-cells_bits widths targets cells all.1, suc-mul) (omega arith)
+
+-- the head and the cells of a typed state have their whole length
+pub length-memory_bits : {widths : Widths} {targets : List Target} {variables : List Variable} {state : State} → IsTyped widths targets variables state → length (memory_bits widths targets state) ≡ widths.addr + block_count widths * block_size widths targets
+length-memory_bits {widths} {targets} {state = state} typed =
+    rw (length-append, length-number_bits widths.addr state.head, length-cells_bits widths targets state.cells typed.each_cell, typed.all_blocks)
+
+-- a variable that a store has, has as many bits as its type
+pub length-variable_bits : (widths : Widths) (store : Store) (variable : Variable) → HasVariable widths store variable → length (variable_bits widths store variable) ≡ size widths variable.ty
+length-variable_bits widths store variable has = rw has.1 (length-value_bits widths has.0 variable.ty has.2)

@@ -1,0 +1,33 @@
+use crate::{after, read_decimal};
+
+#[test]
+fn reads_decimals(rt: HostRuntime) {
+    let table: [(&[u8], Option<(u64, usize)>); 11] = [
+        (b"", None),
+        (b"x7", None),
+        (b"0", Some((0, 1))),
+        (b"00", None),
+        (b"01", None),
+        (b"7x", Some((7, 1))),
+        (b"1048576\n", Some((1_048_576, 7))),
+        (b"+7", None),
+        (
+            b"18446744073709551615",
+            Some((18_446_744_073_709_551_615, 20)),
+        ),
+        (b"18446744073709551616", None),
+        (b"100000000000000000000000000000000000000000", None),
+    ];
+    for (bytes, want) in table {
+        assert_eq!(rt; read_decimal(bytes), want);
+    }
+}
+
+#[test]
+fn finds_what_stands_behind_a_front(rt: HostRuntime) {
+    let bytes = b"wires 7\n".as_slice();
+    assert_eq!(rt; after(bytes, b"wires "), Some(b"7\n".as_slice()));
+    assert_eq!(rt; after(bytes, b""), Some(bytes));
+    assert_eq!(rt; after(bytes, b"gates "), None);
+    assert_eq!(rt; after(bytes, b"wires 7\n\n"), None);
+}
