@@ -1,5 +1,6 @@
 -- Decimal texts and the digits at a front.
-use Rattle.std.proofs.Common.{nat_eq, ◌≡◌, ◌∙◌, ap, sym, ℕ, ◌<◌, ◌^◌, Bool, true, false, ◌&&◌, List, [], ◌∷◌, ◌++◌, decimal, Result, Ok, Err, refl}
+use Rattle.std.proofs.Common.{nat_eq, ◌≡◌, ◌∙◌, ap, sym, ℕ, ◌<◌, ◌^◌, true, false, List, [], ◌∷◌, ◌++◌, decimal, Result, Ok, Err, refl}
+use Rattle.std.proofs.lemmas.Bool.{and_parts}
 use Rattle.std.specs.Char.{is_ascii_digit}
 use Rattle.std.specs.Str.{all_ascii_digits}
 use Rattle.std.proofs.lemmas.List.Sums.{take_while-cons}
@@ -12,10 +13,6 @@ use Rattle.std.specs.Cmp.Lexicographic.{pointwise}
 use Rattle.std.proofs.lemmas.Str.{IsUtf8-from_ascii}
 use Rattle.std.proofs.lemmas.Slice.Eq.{bytes_eq-Decides}
 use Rattle.tw_text.specs.Digits.{digit_run}
-
-and_parts : (k l : Bool) → (k && l) ≡ true → (k ≡ true) × (l ≡ true)
-and_parts true l h = (refl, h)
-and_parts false l h = cc
 
 -- digits before a byte that is none are the whole run
 digit_run-all : (digits : List ℕ) (c : ℕ) (rest : List ℕ) → all_ascii_digits digits ≡ true → is_ascii_digit c ≡ false → digit_run (digits ++ c ∷ rest) ≡ digits

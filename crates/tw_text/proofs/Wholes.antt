@@ -1,5 +1,6 @@
 -- Texts that are digits as a whole.
-use Rattle.std.proofs.Common.{◌≡◌, ◌∙◌, ap, sym, ℕ, ◌<◌, ◌^◌, Bool, true, false, ◌&&◌, List, [], ◌∷◌, length, min, decimal, refl, arith}
+use Rattle.std.proofs.Common.{◌≡◌, ◌∙◌, ap, sym, ℕ, ◌<◌, ◌^◌, true, List, [], ◌∷◌, length, min, decimal, refl, arith}
+use Rattle.std.proofs.lemmas.Bool.{and_parts}
 use Rattle.std.specs.Char.{is_ascii_digit}
 use Rattle.std.specs.Str.{all_ascii_digits}
 use Rattle.std.specs.List.{prefix_len}
@@ -8,10 +9,6 @@ use Rattle.std.proofs.lemmas.List.Sums.{take_while-cons}
 use Rattle.std.proofs.lemmas.Str.Parse.{numerals_by_value, tells_all_ascii_digits}
 use Rattle.std.proofs.lemmas.Fmt.{digits_decimal}
 use Rattle.tw_text.specs.Digits.{digit_run}
-
-and_parts : (k l : Bool) → (k && l) ≡ true → (k ≡ true) × (l ≡ true)
-and_parts true l h = (refl, h)
-and_parts false l h = cc
 
 digit_run-digits : (digits : List ℕ) → all_ascii_digits digits ≡ true → digit_run digits ≡ digits
 digit_run-digits [] all = refl

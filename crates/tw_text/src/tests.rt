@@ -1,4 +1,4 @@
-use crate::{after, read_decimal};
+use crate::{Pos, after, place_after, read_decimal};
 
 #[test]
 fn reads_decimals(rt: HostRuntime) {
@@ -30,4 +30,12 @@ fn finds_what_stands_behind_a_front(rt: HostRuntime) {
     assert_eq!(rt; after(bytes, b""), Some(bytes));
     assert_eq!(rt; after(bytes, b"gates "), None);
     assert_eq!(rt; after(bytes, b"wires 7\n\n"), None);
+}
+
+#[test]
+fn places_count_lines_and_characters(rt: HostRuntime) {
+    let table = [("", 1, 1), ("ab\nc", 2, 2), ("λx", 1, 3)];
+    for (text, line, col) in table {
+        assert_eq!(rt; place_after(text), Pos { line, col });
+    }
 }

@@ -1,0 +1,4 @@
+pub mod Marks
+pub mod Scans
+pub mod Tables
+pub mod Tokens

@@ -1,0 +1,41 @@
+ghost use Rattle.std.specs.Prelude.{◌≡◌};
+ghost use Rattle.tw_lex.specs.Scans.{goes_on, RunsTo};
+
+use tw_text::first_char;
+use unicode_ident::is_xid_continue;
+
+/// A run of characters of one sort.
+#[derive(Debug, Clone, Copy, PartialEq, Eq)]
+pub enum Run {
+    /// Characters that may continue a name.
+    Name,
+    /// ASCII digits.
+    Digits,
+    /// Characters of one line.
+    Line,
+}
+
+/// Whether a run goes on with a character.
+fn goes_on(run: Run, c: char) -> bool
+    ensures { result ≡ goes_on run c }
+{
+    match run {
+        Run::Name => is_xid_continue(c),
+        Run::Digits => c.is_ascii_digit(),
+        Run::Line => c != '\n',
+    }
+}
+
+/// What follows the longest run at the front of a text.
+pub fn after_run(text: &str, run: Run) -> &str
+    ensures { RunsTo (goes_on run) text.now result.now }
+{
+    let mut rest = text;
+    while let Some((c, following)) = first_char(rest) {
+        if !goes_on(run, c) {
+            return rest;
+        }
+        rest = following;
+    }
+    rest
+}

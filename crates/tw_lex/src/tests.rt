@@ -1,0 +1,71 @@
+use crate::{TokenKind, tokens};
+use std::test::Fail;
+use tw_text::{Fault, Pos, Refusal, Rule};
+
+#[test]
+fn reads_names_words_marks_and_numbers(rt: HostRuntime) -> Result<(), Fail> {
+    let text = "fun main(a: bool) -> x<-y<->z // c\nλ1 é_ 0\t18446744073709551615\r\n";
+    let table = [
+        ("fun", 1, 1, TokenKind::Word),
+        ("main", 1, 5, TokenKind::Name),
+        ("(", 1, 9, TokenKind::Mark),
+        ("a", 1, 10, TokenKind::Name),
+        (":", 1, 11, TokenKind::Mark),
+        ("bool", 1, 13, TokenKind::Word),
+        (")", 1, 17, TokenKind::Mark),
+        ("->", 1, 19, TokenKind::Mark),
+        ("x", 1, 22, TokenKind::Name),
+        ("<-", 1, 23, TokenKind::Mark),
+        ("y", 1, 25, TokenKind::Name),
+        ("<->", 1, 26, TokenKind::Mark),
+        ("z", 1, 29, TokenKind::Name),
+        ("λ1", 2, 1, TokenKind::Name),
+        ("é_", 2, 4, TokenKind::Name),
+        ("0", 2, 7, TokenKind::Number(0)),
+        (
+            "18446744073709551615",
+            2,
+            9,
+            TokenKind::Number(18_446_744_073_709_551_615),
+        ),
+    ];
+    let found = tokens(rt.alloc(), text)?;
+    assert_eq!(rt; found.len(), table.len());
+    for (token, (part, line, col, kind)) in found.iter().zip(&table) {
+        assert_eq!(rt; token.text, *part);
+        assert_eq!(rt;
+            token.at,
+            Pos {
+                line: *line,
+                col: *col
+            }
+        );
+        assert_eq!(rt; token.kind, *kind);
+    }
+    Ok(())
+}
+
+#[test]
+fn refuses_what_begins_no_piece(rt: HostRuntime) {
+    let table = [
+        ("fun $", 1, 5),
+        ("01", 1, 1),
+        ("18446744073709551616", 1, 1),
+        ("7x", 1, 1),
+        ("a\n  /b", 2, 3),
+        ("é!", 1, 2),
+    ];
+    for (text, line, col) in table {
+        assert!(rt; text.len() < 100);
+        let refusal = Refusal {
+            rule: Rule::Token,
+            at: Pos { line, col },
+            found: 0,
+            limit: 0,
+        };
+        match tokens(rt.alloc(), text) {
+            Ok(_) => assert!(rt; false, "{text} is taken"),
+            Err(fault) => assert_eq!(rt; fault, Fault::Refused(refusal)),
+        }
+    }
+}

@@ -1,0 +1,7 @@
+pub mod Shapes
+pub mod Lists
+pub mod Unequal
+pub mod Deciding
+pub mod DecidedTypes
+pub mod DecidedTerms
+pub mod DecidedPrograms

@@ -1,0 +1,101 @@
+use crate::place::Pos;
+use bumpalo::Bump;
+use std::alloc::Global;
+use thiserror::Error;
+
+/// The arena of syntax trees, types, names and wire code. It is owned outside of all that borrows from it.
+pub type Arena = Bump<Global>;
+
+/// What a limit counts.
+#[derive(Debug, Clone, Copy, PartialEq, Eq)]
+pub enum Counted {
+    /// Bytes of the input.
+    Input,
+    /// Brackets that are open at one place of the source.
+    Nesting,
+    /// Statements that are run.
+    Statements,
+    /// Statements that lie in one another.
+    Depth,
+    /// Controls of one gate.
+    Controls,
+    /// Wires of the layout.
+    Wires,
+    /// Gate lines.
+    Lines,
+    /// States, or lines of bits.
+    States,
+}
+
+/// Why a source is refused.
+#[derive(Debug, Clone, Copy, PartialEq, Eq)]
+pub enum Rule {
+    /// A byte begins no character.
+    Utf8,
+    /// Characters are no token.
+    Token,
+    /// No program goes on with this token.
+    Syntax,
+    /// A name is declared twice.
+    DuplicateName,
+    /// A name is not declared.
+    UnknownName,
+    /// A type holds itself outside of pointers.
+    RecursiveType,
+    /// A type has pairs in pairs too deep.
+    TypeTooDeep,
+    /// A type is too large.
+    TypeTooLarge,
+    /// A function is called before it is declared, or by itself with no smaller bound.
+    CallOrder,
+    /// A call has a bound too many or too few, or a wrong number of arguments.
+    BadCall,
+    /// An argument stands twice in a call.
+    RepeatedArgument,
+    /// A number does not fit a word.
+    LiteralTooWide,
+    /// A type is not the one that is needed.
+    TypeMismatch,
+    /// A name has another type than before.
+    TypeChanged,
+    /// A parameter is returned.
+    BadReturn,
+    /// No function fits the entry.
+    BadEntry,
+    /// A name has no value here.
+    NotDeclared,
+    /// A name has a value already.
+    Redeclared,
+    /// A name that a condition holds is written.
+    ConditionWritten,
+    /// A name is computed from itself.
+    SelfUse,
+    /// Two paths overlap.
+    Overlap,
+    /// Two branches end with different names.
+    BranchesDiffer,
+    /// A setup can't be undone.
+    WithNotUndone,
+    /// A function leaves other names than its parameters and its result.
+    Left,
+    /// A limit is passed.
+    Limit(Counted),
+}
+
+/// A refusal: the rule, its place, and two numbers: what was counted and the limit, or 0 where the rule has none.
+#[derive(Debug, Clone, Copy, PartialEq, Eq)]
+pub struct Refusal {
+    pub rule: Rule,
+    pub at: Pos,
+    pub found: u64,
+    pub limit: u64,
+}
+
+/// Why a call has no answer: the source is refused, or memory is wanting.
+#[derive(Debug, Clone, Copy, PartialEq, Eq, Error)]
+pub enum Fault {
+    #[error("the source is refused")]
+    Refused(Refusal),
+    #[error("memory is wanting")]
+    Memory,
+}
