@@ -1,0 +1,76 @@
+-- What reading a source gives is what the grammar says of it.
+use Rattle.std.proofs.Common.{◌≡◌, sym, subst, ℕ, List, length, Result, Ok, Err, IfOk, IfErr}
+use Rattle.std.proofs.Math.Seq.{take-length}
+use Rattle.std.specs.Str.{chars, IsUtf8, IsValidUpTo}
+use Rattle.tw_text.specs.declared.refusal.Refusal.{Refusal}
+use Rattle.tw_text.specs.declared.refusal.Fault.{Fault}
+use Rattle.tw_text.specs.declared.refusal.Fault.TheVariants as fault
+use Rattle.tw_text.specs.Places.{first_place}
+use Rattle.tw_lex.proofs.Splits.{no_reading}
+use Rattle.tw_syntax.specs.Programs.{ProgramTree}
+use Rattle.tw_parse.specs.declared.stop.Halt.{Halt}
+use Rattle.tw_parse.specs.declared.stop.Halt.TheVariants.{Syntax, Nesting}
+use Rattle.tw_parse.specs.Words.{Tok}
+use Rattle.tw_parse.specs.Trees.{HasTree}
+use Rattle.tw_parse.specs.Whole.{IsShallow}
+use Rattle.tw_parse.specs.Lexed.{HasToks}
+use Rattle.tw_parse.specs.ReadingStatements.{whole_at}
+use Rattle.tw_parse.specs.Parsed.{IsParsed, IsStopped, NoText, NoToken, Halted, IsFault, refusal_of, end_of}
+use Rattle.tw_parse.specs.Sources.{IsSource, IsRefused, Utf8, Token, Program, Depth}
+use Rattle.tw_parse.proofs.Lexings.{one_toks}
+use Rattle.tw_parse.proofs.Texts.{read-tree, read-syntax, read-nesting, tree-same}
+use Rattle.tw_parse.proofs.Verdicts.{program-not_syntax, shallow-not_deep}
+
+pub source_of : (bytes : List ℕ) (tree : ProgramTree) → IsParsed bytes tree → IsSource bytes tree
+source_of bytes tree p =
+    let h = read-tree p.toks tree p.reads in record { text = p.text; toks = p.toks; has = p.has; has_tree = h.0; shallow = h.1 }
+
+pub one_source : (bytes : List ℕ) (tree other : ProgramTree) → IsSource bytes tree → IsSource bytes other → other ≡ tree
+one_source bytes tree other s o =
+    tree-same s.toks other tree (subst (λ (ts : List Tok). HasTree ts other) (one_toks (chars bytes) o.toks s.toks o.has s.has) o.has_tree) s.has_tree
+
+halted_at : (bytes : List ℕ) (refusal : Refusal) (toks : List Tok) (halt : Halt) → IsUtf8 bytes → HasToks (chars bytes) toks → whole_at toks ≡ Err halt
+    → refusal ≡ refusal_of halt toks (end_of bytes) → IsRefused bytes refusal
+halted_at bytes refusal toks (Syntax left) text has reads is =
+    Program (record { text = text; toks = toks; left = left; has = has; syntax = read-syntax toks left reads; is = is })
+halted_at bytes refusal toks (Nesting left) text has reads is =
+    Depth (record { text = text; toks = toks; left = left; has = has; nesting = read-nesting toks left reads; is = is })
+
+pub refused_of : (bytes : List ℕ) (refusal : Refusal) → IsStopped bytes refusal → IsRefused bytes refusal
+refused_of bytes refusal (NoText n) = Utf8 n
+refused_of bytes refusal (NoToken text n) = Token text n
+refused_of bytes refusal (Halted h) = halted_at bytes refusal h.toks h.halt h.text h.has h.reads h.is
+
+no_text : (bytes : List ℕ) (count : ℕ) → IsValidUpTo bytes count → IsUtf8 bytes → ⊥
+no_text bytes count v text = v.longest (length bytes) v.short (subst IsUtf8 (sym (take-length bytes)) text)
+
+-- a source with a tree is not refused
+pub apart : (bytes : List ℕ) (tree : ProgramTree) (refusal : Refusal) → IsSource bytes tree → IsRefused bytes refusal → ⊥
+apart bytes tree refusal s (Utf8 n) = no_text bytes n.count n.valid s.text
+apart bytes tree refusal s (Token text n) = no_reading (chars bytes) first_place refusal.at s.has.lexed n.stops s.has.splits
+apart bytes tree refusal s (Program n) =
+    program-not_syntax n.toks n.left (subst (λ (ts : List Tok). HasTree ts tree) (one_toks (chars bytes) s.toks n.toks s.has n.has) s.has_tree).0 n.syntax
+apart bytes tree refusal s (Depth n) =
+    shallow-not_deep n.toks n.left (subst IsShallow (one_toks (chars bytes) s.toks n.toks s.has n.has) s.shallow) n.nesting
+
+-- the same of what a call gave
+
+pub source_given : {A : Type 0} (bytes : List ℕ) (tree : A → ProgramTree) (r : Result A Fault) → IfOk r (λ x. IsParsed bytes (tree x)) → IfOk r (λ x. IsSource bytes (tree x))
+source_given bytes tree (Ok x) h = source_of bytes (tree x) h
+source_given bytes tree (Err e) h = tt
+
+pub only_given : {A : Type 0} (bytes : List ℕ) (tree : A → ProgramTree) (r : Result A Fault) → IfOk r (λ x. IsParsed bytes (tree x))
+    → IfOk r (λ x. (other : ProgramTree) → IsSource bytes other → other ≡ tree x)
+only_given bytes tree (Ok x) h = λ other s. one_source bytes (tree x) other (source_of bytes (tree x) h) s
+only_given bytes tree (Err e) h = tt
+
+pub accepted_given : {A : Type 0} (bytes : List ℕ) (tree : A → ProgramTree) (r : Result A Fault) → IfOk r (λ x. IsParsed bytes (tree x))
+    → IfOk r (λ x. (refusal : Refusal) → ¬ IsRefused bytes refusal)
+accepted_given bytes tree (Ok x) h = λ refusal n. apart bytes (tree x) refusal (source_of bytes (tree x) h) n
+accepted_given bytes tree (Err e) h = tt
+
+pub refused_given : {A : Type 0} (bytes : List ℕ) (r : Result A Fault) (refusal : Refusal) → IfErr r (λ e. IsFault bytes e) → r ≡ Err (fault.Refused refusal) → IsRefused bytes refusal
+refused_given bytes (Ok x) refusal h e = absurd (cc)
+refused_given bytes (Err (fault.Refused found)) refusal h e =
+    let same : found ≡ refusal = cc in subst (IsRefused bytes) same (refused_of bytes found h)
+refused_given bytes (Err fault.Memory) refusal h e = absurd (cc)

@@ -1,0 +1,17 @@
+-- The machine without a limit on its brackets, and where it stands behind some tokens.
+use Rattle.std.proofs.Common.{List, [], ◌∷◌, Option, Some, None}
+use Rattle.tw_parse.specs.Words.{Tok}
+use Rattle.tw_parse.specs.Machine.{N, Next, move}
+
+-- what is awaited behind a move
+abbrev pub moved : Next → (List N → Option (List N)) → Option (List N)
+moved (Next.Take st) go = go st
+moved (Next.Open st) go = go st
+moved (Next.Shut st) go = go st
+moved Next.Pop go = None
+moved Next.Stop go = None
+
+-- what is awaited behind these tokens
+abbrev pub walk : List Tok → List N → Option (List N)
+walk [] st = Some st
+walk (t ∷ ts) st = moved (move t.word st) (walk ts)

@@ -1,0 +1,25 @@
+use Rattle.std.proofs.Common.{sym, ◌∙◌}
+use Rattle.std.proofs.lemmas.List.{map_push}
+use Rattle.std.proofs.lemmas.Result.{err_from_is_err_and}
+use Rattle.tw_syntax.specs.Programs.{param_tree}
+use Rattle.tw_parse.proofs.Many.{starts_with, goes_on, fails, stops, is_done}
+use Rattle.tw_parse.proofs.functions.more_params.Goals as goal
+
+pub loop-init : goal.loop-init
+loop-init c = rw (c.in_ok-push.ensures.items, c.new-params.ensures.items) (starts_with _ _ _ c.left-count.ensures)
+
+pub loop-preserved : goal.loop-preserved
+loop-preserved c =
+    rw (c.in_ok-push-2.ensures.items, map_push param_tree c.loop.params.items _)
+    (goes_on c.loop.invariant c.loop-test.true (sym c.leads.ensures ∙ c.if-not-leads.false) c.in_ok-comma_param.ensures)
+
+pub returns-in_err-comma_param : goal.returns-in_err-comma_param
+returns-in_err-comma_param c =
+    let p = err_from_is_err_and c.from_residual-in_err-comma_param.result c.from_residual-in_err-comma_param.ensures.1 in
+    rw (p.1, p.2) (fails _ c.loop.invariant c.loop-test.true (sym c.leads.ensures ∙ c.if-not-leads.false) c.in_err-comma_param.ensures)
+
+pub returns-then-not-leads : goal.returns-then-not-leads
+returns-then-not-leads c = rw c.into_bump_slice.ensures (stops c.loop.invariant (sym c.leads.ensures ∙ c.if-not-leads.true))
+
+pub returns : goal.returns
+returns c = rw c.into_bump_slice-2.ensures (is_done c.loop.invariant c.loop-test.false)

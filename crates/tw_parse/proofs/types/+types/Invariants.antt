@@ -1,0 +1,17 @@
+use Rattle.std.proofs.Common.{◌+◌, ◌*◌}
+use Rattle.tw_parse.proofs.types.+types.Given as goal
+
+abbrev pub decreases-written : goal.decreases-written
+decreases-written l = 4 * l.room + 3
+
+abbrev pub decreases-ptr : goal.decreases-ptr
+decreases-ptr l = 4 * l.room + 2
+
+abbrev pub decreases-paren : goal.decreases-paren
+decreases-paren l = 4 * l.room + 2
+
+abbrev pub decreases-pair : goal.decreases-pair
+decreases-pair l = 4 * l.room + 4
+
+abbrev pub decreases-angle : goal.decreases-angle
+decreases-angle l = 4 * l.room + 1

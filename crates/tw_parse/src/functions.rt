@@ -1,0 +1,229 @@
+//! Functions.
+
+ghost use Rattle.std.specs.Prelude.{◌≡◌, suc, drop, map};
+ghost use Rattle.std.specs.Option.{option_map};
+ghost use Rattle.tw_syntax.specs.Names.{name_tree};
+ghost use Rattle.tw_syntax.specs.Types.{written_tree};
+ghost use Rattle.tw_syntax.specs.Programs.{param_tree, fun_tree};
+ghost use Rattle.tw_parse.specs.declared.word.Mark.TheVariants as m;
+ghost use Rattle.tw_parse.specs.Items.{toks};
+ghost use Rattle.tw_parse.specs.Steps.{Gives, all_at, leads, put_first};
+ghost use Rattle.tw_parse.specs.Reading.{type_at};
+ghost use Rattle.tw_parse.specs.ReadingStatements.{param_with, comma_param_with, param_list_with, params_at, fun_bound_at, title_at, interface_at, return_at, body_at, fun_at};
+ghost use Rattle.tw_parse.specs.Parts.{title_of, interface_of, return_of, body_of};
+
+use crate::item::Item;
+use crate::statements::stmts;
+use crate::stop::Stop;
+use crate::take::{leads, leads_name, left, take_mark, take_name, take_open};
+use crate::types::written;
+use crate::word::Mark;
+use bumpalo::collections::into_bump_slice;
+use tw_syntax::{Fun, Name, Param, Stmt, Written};
+use tw_text::{Arena, Pos};
+
+/// A function's name and bound.
+#[derive(Clone, Copy)]
+pub struct Title<'a> {
+    pub name: Name<'a>,
+    pub bound: Option<Name<'a>>,
+}
+
+/// A function's parameters and the type of its result.
+#[derive(Clone, Copy)]
+pub struct Interface<'a> {
+    pub params: &'a [Param<'a>],
+    pub result: &'a Written<'a>,
+}
+
+/// The end of a function's body.
+#[derive(Clone, Copy)]
+pub struct Return<'a> {
+    pub at: Pos,
+    pub name: Name<'a>,
+}
+
+/// A function's body.
+#[derive(Clone, Copy)]
+pub struct Body<'a> {
+    pub stmts: &'a [Stmt<'a>],
+    pub last: Return<'a>,
+}
+
+/// A parameter.
+#[tactic(auto, unfolding(crate::specs::ReadingStatements::param_with))]
+fn param<'a>(
+    arena: &'a Arena,
+    items: &[Item<'a>],
+    at: &mut usize,
+    room: u32,
+) -> Result<Param<'a>, Stop>
+    ensures { Gives (λ x. (param_tree x, drop at.new (toks items.now))) result (param_with (type_at (suc room)) (drop at.old (toks items.now))) }
+{
+    let name = take_name(items, at)?;
+    take_mark(Mark::Colon, items, at)?;
+    let ty = written(arena, items, at, room)?;
+    Ok(Param { name, ty })
+}
+
+/// A comma and a parameter.
+#[tactic(auto, unfolding(crate::specs::ReadingStatements::comma_param_with))]
+fn comma_param<'a>(
+    arena: &'a Arena,
+    items: &[Item<'a>],
+    at: &mut usize,
+    room: u32,
+) -> Result<Param<'a>, Stop>
+    ensures { Gives (λ x. (param_tree x, drop at.new (toks items.now))) result (comma_param_with (type_at (suc room)) (drop at.old (toks items.now))) }
+{
+    take_mark(Mark::Comma, items, at)?;
+    param(arena, items, at, room)
+}
+
+/// A parameter that was read, and all that follow it behind commas.
+fn more_params<'a>(
+    arena: &'a Arena,
+    first: Param<'a>,
+    items: &[Item<'a>],
+    at: &mut usize,
+    room: u32,
+) -> Result<&'a [Param<'a>], Stop>
+    ensures { Gives (λ x. (map param_tree x.now, drop at.new (toks items.now))) result (put_first (param_tree first.entry) (all_at (leads m.Comma) (comma_param_with (type_at (suc room))) (drop at.old (toks items.now)))) }
+{
+    let mut params = Vec::new(arena);
+    params.push(first)?;
+    let count = left(items, *at);
+    for _ in 0..count {
+        if !leads(Mark::Comma, items, *at) {
+            return Ok(into_bump_slice(params));
+        }
+        params.push(comma_param(arena, items, at, room)?)?;
+    }
+    Ok(into_bump_slice(params))
+}
+
+/// Parameters with commas between them, or nothing.
+#[tactic(auto, unfolding(crate::specs::ReadingStatements::param_list_with))]
+fn param_list<'a>(
+    arena: &'a Arena,
+    items: &[Item<'a>],
+    at: &mut usize,
+    room: u32,
+) -> Result<&'a [Param<'a>], Stop>
+    ensures { Gives (λ x. (map param_tree x.now, drop at.new (toks items.now))) result (param_list_with (type_at (suc room)) (drop at.old (toks items.now))) }
+{
+    if !leads_name(items, *at) {
+        return Ok(&[]);
+    }
+    let first = param(arena, items, at, room)?;
+    more_params(arena, first, items, at, room)
+}
+
+/// The parameters of a function.
+#[tactic(auto, unfolding(crate::specs::ReadingStatements::params_at))]
+fn params<'a>(
+    arena: &'a Arena,
+    items: &[Item<'a>],
+    at: &mut usize,
+    room: u32,
+) -> Result<&'a [Param<'a>], Stop>
+    ensures { Gives (λ x. (map param_tree x.now, drop at.new (toks items.now))) result (params_at room (drop at.old (toks items.now))) }
+{
+    take_open(Mark::Open, room, items, at)?;
+    let params = param_list(arena, items, at, room - 1)?;
+    take_mark(Mark::Close, items, at)?;
+    Ok(params)
+}
+
+/// The bound of a function in its brackets, where there is one.
+#[tactic(auto, unfolding(crate::specs::ReadingStatements::fun_bound_at))]
+fn fun_bound<'a>(items: &[Item<'a>], at: &mut usize) -> Result<Option<Name<'a>>, Stop>
+    ensures { Gives (λ x. (option_map name_tree x, drop at.new (toks items.now))) result (fun_bound_at (drop at.old (toks items.now))) }
+{
+    if !leads(Mark::OpenBracket, items, *at) {
+        return Ok(None);
+    }
+    take_mark(Mark::OpenBracket, items, at)?;
+    let name = take_name(items, at)?;
+    take_mark(Mark::CloseBracket, items, at)?;
+    Ok(Some(name))
+}
+
+/// `fun`, a name and perhaps a bound.
+#[tactic(auto, unfolding(crate::specs::ReadingStatements::title_at))]
+fn take_title<'a>(items: &[Item<'a>], at: &mut usize) -> Result<Title<'a>, Stop>
+    ensures { Gives (λ x. (title_of x, drop at.new (toks items.now))) result (title_at (drop at.old (toks items.now))) }
+{
+    take_mark(Mark::Fun, items, at)?;
+    let name = take_name(items, at)?;
+    let bound = fun_bound(items, at)?;
+    Ok(Title { name, bound })
+}
+
+/// Parameters, `->` and a type.
+#[tactic(auto, unfolding(crate::specs::ReadingStatements::interface_at))]
+fn take_interface<'a>(
+    arena: &'a Arena,
+    items: &[Item<'a>],
+    at: &mut usize,
+    room: u32,
+) -> Result<Interface<'a>, Stop>
+    ensures { Gives (λ x. (interface_of x, drop at.new (toks items.now))) result (interface_at room (drop at.old (toks items.now))) }
+{
+    let params = params(arena, items, at, room)?;
+    take_mark(Mark::Arrow, items, at)?;
+    let result = written(arena, items, at, room)?;
+    Ok(Interface { params, result })
+}
+
+/// `return`, a name and a semicolon.
+#[tactic(auto, unfolding(crate::specs::ReadingStatements::return_at))]
+fn take_last<'a>(items: &[Item<'a>], at: &mut usize) -> Result<Return<'a>, Stop>
+    ensures { Gives (λ x. (return_of x, drop at.new (toks items.now))) result (return_at (drop at.old (toks items.now))) }
+{
+    let place = take_mark(Mark::Return, items, at)?;
+    let name = take_name(items, at)?;
+    take_mark(Mark::Semicolon, items, at)?;
+    Ok(Return { at: place, name })
+}
+
+/// The body of a function in its braces.
+#[tactic(auto, unfolding(crate::specs::ReadingStatements::body_at))]
+fn take_body<'a>(
+    arena: &'a Arena,
+    items: &[Item<'a>],
+    at: &mut usize,
+    room: u32,
+) -> Result<Body<'a>, Stop>
+    ensures { Gives (λ x. (body_of x, drop at.new (toks items.now))) result (body_at room (drop at.old (toks items.now))) }
+{
+    take_open(Mark::OpenBrace, room, items, at)?;
+    let stmts = stmts(arena, Mark::Return, items, at, room - 1)?;
+    let last = take_last(items, at)?;
+    take_mark(Mark::CloseBrace, items, at)?;
+    Ok(Body { stmts, last })
+}
+
+/// A function, in which so many brackets may open.
+#[tactic(auto, using(crate::proofs::Chains::chains), unfolding(crate::specs::ReadingStatements::fun_at))]
+pub fn fun<'a>(
+    arena: &'a Arena,
+    items: &[Item<'a>],
+    at: &mut usize,
+    room: u32,
+) -> Result<Fun<'a>, Stop>
+    ensures { Gives (λ x. (fun_tree x, drop at.new (toks items.now))) result (fun_at room (drop at.old (toks items.now))) }
+{
+    let title = take_title(items, at)?;
+    let interface = take_interface(arena, items, at, room)?;
+    let body = take_body(arena, items, at, room)?;
+    Ok(Fun {
+        name: title.name,
+        bound: title.bound,
+        params: interface.params,
+        result: interface.result,
+        body: body.stmts,
+        return_at: body.last.at,
+        returned: body.last.name,
+    })
+}

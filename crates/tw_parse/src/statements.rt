@@ -1,0 +1,150 @@
+//! Statements, and the blocks that they hold.
+
+ghost use Rattle.std.specs.Prelude.{◌≡◌, suc, drop, map};
+ghost use Rattle.tw_syntax.specs.Statements.{stmt_tree, else_tree};
+ghost use Rattle.tw_parse.specs.Items.{toks};
+ghost use Rattle.tw_parse.specs.Steps.{Gives, all_at};
+ghost use Rattle.tw_parse.specs.ReadingStatements.{goes_before, block_with, block_stmt_with, else_with, if_with, with_with, stmt_at};
+
+use crate::item::Item;
+use crate::paths::path;
+use crate::simple::plain_stmt;
+use crate::stop::Stop;
+use crate::take::{leads, left, place, take_mark, take_open};
+use crate::word::Mark;
+use bumpalo::collections::into_bump_slice;
+use tw_syntax::{No, Stmt, block as block_of, choice, otherwise, with_block};
+use tw_text::Arena;
+
+/// The statements before this mark, in which so many brackets may open.
+#[cycle(statements)]
+pub fn stmts<'a>(
+    arena: &'a Arena,
+    end: Mark,
+    items: &[Item<'a>],
+    at: &mut usize,
+    room: u32,
+) -> Result<&'a [Stmt<'a>], Stop>
+    ensures { Gives (λ x. (map stmt_tree x.now, drop at.new (toks items.now))) result (all_at (goes_before end) (stmt_at (suc room)) (drop at.old (toks items.now))) }
+{
+    let count = left(items, *at);
+    let mut stmts = Vec::new(arena);
+    for _ in 0..count {
+        if leads(end, items, *at) {
+            return Ok(into_bump_slice(stmts));
+        }
+        stmts.push(stmt(arena, items, at, room)?)?;
+    }
+    Ok(into_bump_slice(stmts))
+}
+
+/// Statements in braces.
+#[cycle(statements)]
+#[tactic(auto, unfolding(crate::specs::ReadingStatements::block_with))]
+fn block<'a>(
+    arena: &'a Arena,
+    items: &[Item<'a>],
+    at: &mut usize,
+    room: u32,
+) -> Result<&'a [Stmt<'a>], Stop>
+    ensures { Gives (λ x. (map stmt_tree x.now, drop at.new (toks items.now))) result (block_with (stmt_at room) room (drop at.old (toks items.now))) }
+{
+    take_open(Mark::OpenBrace, room, items, at)?;
+    let stmts = stmts(arena, Mark::CloseBrace, items, at, room - 1)?;
+    take_mark(Mark::CloseBrace, items, at)?;
+    Ok(stmts)
+}
+
+/// A block as a statement.
+#[cycle(statements)]
+#[tactic(auto, using(crate::proofs::Chains::chains), unfolding(crate::specs::ReadingStatements::block_stmt_with))]
+fn block_stmt<'a>(
+    arena: &'a Arena,
+    items: &[Item<'a>],
+    at: &mut usize,
+    room: u32,
+) -> Result<Stmt<'a>, Stop>
+    ensures { Gives (λ x. (stmt_tree x, drop at.new (toks items.now))) result (block_stmt_with (stmt_at room) room (drop at.old (toks items.now))) }
+{
+    let place = place(items, *at)?;
+    let stmts = block(arena, items, at, room)?;
+    Ok(block_of(place, stmts))
+}
+
+/// An `else` and its block, where there is one.
+#[cycle(statements)]
+#[tactic(auto, using(crate::proofs::Chains::chains), unfolding(crate::specs::ReadingStatements::else_with))]
+fn other<'a>(
+    arena: &'a Arena,
+    items: &[Item<'a>],
+    at: &mut usize,
+    room: u32,
+) -> Result<Option<No<'a>>, Stop>
+    ensures { Gives (λ x. (else_tree x, drop at.new (toks items.now))) result (else_with (stmt_at room) room (drop at.old (toks items.now))) }
+{
+    if leads(Mark::Else, items, *at) {
+        let place = take_mark(Mark::Else, items, at)?;
+        let stmts = block(arena, items, at, room)?;
+        return Ok(Some(otherwise(place, stmts)));
+    }
+    Ok(None)
+}
+
+/// An `if`.
+#[cycle(statements)]
+#[tactic(auto, using(crate::proofs::Chains::chains), unfolding(crate::specs::ReadingStatements::if_with))]
+fn if_stmt<'a>(
+    arena: &'a Arena,
+    items: &[Item<'a>],
+    at: &mut usize,
+    room: u32,
+) -> Result<Stmt<'a>, Stop>
+    ensures { Gives (λ x. (stmt_tree x, drop at.new (toks items.now))) result (if_with (stmt_at room) room (drop at.old (toks items.now))) }
+{
+    let place = take_mark(Mark::If, items, at)?;
+    let cond = path(arena, items, at)?;
+    let body = block(arena, items, at, room)?;
+    let other = other(arena, items, at, room)?;
+    Ok(choice(place, cond, body, other))
+}
+
+/// A `with`.
+#[cycle(statements)]
+#[tactic(auto, using(crate::proofs::Chains::chains), unfolding(crate::specs::ReadingStatements::with_with))]
+fn with_stmt<'a>(
+    arena: &'a Arena,
+    items: &[Item<'a>],
+    at: &mut usize,
+    room: u32,
+) -> Result<Stmt<'a>, Stop>
+    ensures { Gives (λ x. (stmt_tree x, drop at.new (toks items.now))) result (with_with (stmt_at room) room (drop at.old (toks items.now))) }
+{
+    let place = take_mark(Mark::With, items, at)?;
+    let setup = block(arena, items, at, room)?;
+    take_mark(Mark::Do, items, at)?;
+    let work = block(arena, items, at, room)?;
+    Ok(with_block(place, setup, work))
+}
+
+/// A statement, in which so many brackets may open.
+#[cycle(statements)]
+#[tactic(auto, unfolding(crate::specs::ReadingStatements::stmt_at, crate::specs::ReadingStatements::stmt_with))]
+fn stmt<'a>(
+    arena: &'a Arena,
+    items: &[Item<'a>],
+    at: &mut usize,
+    room: u32,
+) -> Result<Stmt<'a>, Stop>
+    ensures { Gives (λ x. (stmt_tree x, drop at.new (toks items.now))) result (stmt_at (suc room) (drop at.old (toks items.now))) }
+{
+    if leads(Mark::If, items, *at) {
+        return if_stmt(arena, items, at, room);
+    }
+    if leads(Mark::With, items, *at) {
+        return with_stmt(arena, items, at, room);
+    }
+    if leads(Mark::OpenBrace, items, *at) {
+        return block_stmt(arena, items, at, room);
+    }
+    plain_stmt(arena, items, at, room)
+}
