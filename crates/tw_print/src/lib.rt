@@ -1,0 +1,13 @@
+//! The printed form of programs: the one text in which each program is written.
+//! The definitions of `specs/` say what is printed for each tree, and `proofs/` join the pieces.
+#![tactic(auto)]
+
+mod programs;
+mod progress;
+mod statements;
+mod terms;
+#[cfg(test)]
+mod tests;
+mod types;
+
+pub use programs::print_program;
