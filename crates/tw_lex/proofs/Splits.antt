@@ -102,3 +102,17 @@ pub no_reading : (cs : List ℕ) (at stop : Pos) (toks : List Tok) → StopsAt c
 no_reading cs at stop toks s h =
     let b = behind s.pieces h.pieces cs at s.toks toks s.rest stop h.end s.splits h.splits in
     one_more b.pieces s.rest stop h.end b.more b.splits s.some_left s.none_stands
+
+one_stop_from : (ps qs : List Piece) (cs : List ℕ) (at : Pos) (toks other : List Tok) (rest tail : List ℕ) (stop end : Pos) → Splits ps cs at toks rest stop → Splits qs cs at other tail end
+    → ((piece : Piece) (mid : List ℕ) → rest ≡ piece_text piece ++ mid → Stands piece mid → ⊥) → ((piece : Piece) (mid : List ℕ) → tail ≡ piece_text piece ++ mid → Stands piece mid → ⊥) → stop ≡ end
+one_stop_from [] [] cs at toks other rest tail stop end s t none none' = sym s.2 ∙ t.2
+one_stop_from [] (q ∷ qs) cs at toks other rest tail stop end s t none none' = absurd (none q t.0 (sym s.0 ∙ t.2) t.3)
+one_stop_from (p ∷ ps) [] cs at toks other rest tail stop end s t none none' = absurd (none' p s.0 (sym t.0 ∙ s.2) s.3)
+one_stop_from (p ∷ ps) (q ∷ qs) cs at toks other rest tail stop end s t none none' =
+    let one = one_piece p q s.0 t.0 s.3 t.3 (sym s.2 ∙ t.2) in
+    let t' : Splits qs s.0 (after_chars at (piece_text p)) t.1 tail end = rw (one.0, one.1) t.5 in
+    one_stop_from ps qs s.0 (after_chars at (piece_text p)) s.1 t.1 rest tail stop end s.5 t' none none'
+
+-- its pieces stop at one place
+pub one_stop : (cs : List ℕ) (at stop end : Pos) → StopsAt cs at stop → StopsAt cs at end → stop ≡ end
+one_stop cs at stop end s t = one_stop_from s.pieces t.pieces cs at s.toks t.toks s.rest t.rest stop end s.splits t.splits s.none_stands t.none_stands

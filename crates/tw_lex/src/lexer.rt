@@ -70,6 +70,7 @@ pub fn tokens<'t>(alloc: Global, text: &'t str) -> Result<Vec<Token<'t>>, Fault>
     ensures only { IfOk result (λ v. (other : List Tok) → HasTokens (chars text.now) first_place other → other ≡ map seen v.items) }
     ensures refused { (r : Refusal) → result ≡ Err (Fault.Refused r) → IsNoToken (chars text.now) r }
     ensures no_tokens { (r : Refusal) → result ≡ Err (Fault.Refused r) → (toks : List Tok) → ¬ (HasTokens (chars text.now) first_place toks) }
+    ensures one_refusal { (r : Refusal) → result ≡ Err (Fault.Refused r) → (other : Refusal) → IsNoToken (chars text.now) other → other ≡ r }
 {
     split(alloc, text)
 }

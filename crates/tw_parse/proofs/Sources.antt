@@ -1,25 +1,28 @@
 -- What reading a source gives is what the grammar says of it.
-use Rattle.std.proofs.Common.{◌≡◌, sym, subst, ℕ, List, length, Result, Ok, Err, IfOk, IfErr}
+use Rattle.std.proofs.Common.{◌≡◌, ◌∙◌, ap, sym, subst, ℕ, ◌<◌, List, length, take, arith, Result, Ok, Err, IfOk, IfErr}
 use Rattle.std.proofs.Math.Seq.{take-length}
 use Rattle.std.specs.Str.{chars, IsUtf8, IsValidUpTo}
 use Rattle.tw_text.specs.declared.refusal.Refusal.{Refusal}
 use Rattle.tw_text.specs.declared.refusal.Fault.{Fault}
 use Rattle.tw_text.specs.declared.refusal.Fault.TheVariants as fault
+use Rattle.tw_text.specs.declared.refusal.Rule.TheVariants as rule
 use Rattle.tw_text.specs.Places.{first_place}
+use Rattle.tw_lex.specs.Scans.{IsNoToken}
 use Rattle.tw_lex.proofs.Splits.{no_reading}
+use Rattle.tw_lex.proofs.Endings.{one_refusal}
 use Rattle.tw_syntax.specs.Programs.{ProgramTree}
 use Rattle.tw_parse.specs.declared.stop.Halt.{Halt}
 use Rattle.tw_parse.specs.declared.stop.Halt.TheVariants.{Syntax, Nesting}
 use Rattle.tw_parse.specs.Words.{Tok}
 use Rattle.tw_parse.specs.Trees.{HasTree}
-use Rattle.tw_parse.specs.Whole.{IsShallow}
+use Rattle.tw_parse.specs.Whole.{IsShallow, IsSyntaxAt, IsTooDeepAt}
 use Rattle.tw_parse.specs.Lexed.{HasToks}
 use Rattle.tw_parse.specs.ReadingStatements.{whole_at}
-use Rattle.tw_parse.specs.Parsed.{IsParsed, IsStopped, NoText, NoToken, Halted, IsFault, refusal_of, end_of}
-use Rattle.tw_parse.specs.Sources.{IsSource, IsRefused, Utf8, Token, Program, Depth}
+use Rattle.tw_parse.specs.Parsed.{IsNoText, IsParsed, IsStopped, NoText, NoToken, Halted, IsFault, refusal_of, end_of}
+use Rattle.tw_parse.specs.Sources.{IsNoProgram, IsTooDeep, IsSource, IsRefused, Utf8, Token, Program, Depth}
 use Rattle.tw_parse.proofs.Lexings.{one_toks}
 use Rattle.tw_parse.proofs.Texts.{read-tree, read-syntax, read-nesting, tree-same}
-use Rattle.tw_parse.proofs.Verdicts.{program-not_syntax, shallow-not_deep}
+use Rattle.tw_parse.proofs.Verdicts.{program-not_syntax, shallow-not_deep, syntax-same, deep-same, syntax-not_deep}
 
 pub source_of : (bytes : List ℕ) (tree : ProgramTree) → IsParsed bytes tree → IsSource bytes tree
 source_of bytes tree p =
@@ -41,6 +44,9 @@ refused_of bytes refusal (NoText n) = Utf8 n
 refused_of bytes refusal (NoToken text n) = Token text n
 refused_of bytes refusal (Halted h) = halted_at bytes refusal h.toks h.halt h.text h.has h.reads h.is
 
+two_ways : (m n : ℕ) → (m < n → ⊥) → (n < m → ⊥) → m ≡ n
+two_ways m n not_less not_more = omega (arith, not_less, not_more)
+
 no_text : (bytes : List ℕ) (count : ℕ) → IsValidUpTo bytes count → IsUtf8 bytes → ⊥
 no_text bytes count v text = v.longest (length bytes) v.short (subst IsUtf8 (sym (take-length bytes)) text)
 
@@ -52,6 +58,53 @@ apart bytes tree refusal s (Program n) =
     program-not_syntax n.toks n.left (subst (λ (ts : List Tok). HasTree ts tree) (one_toks (chars bytes) s.toks n.toks s.has n.has) s.has_tree).0 n.syntax
 apart bytes tree refusal s (Depth n) =
     shallow-not_deep n.toks n.left (subst IsShallow (one_toks (chars bytes) s.toks n.toks s.has n.has) s.shallow) n.nesting
+
+-- the length of the longest front that is a text
+one_count : (bytes : List ℕ) (m n : ℕ) → IsValidUpTo bytes m → IsValidUpTo bytes n → m ≡ n
+one_count bytes m n v w = two_ways m n (λ less. v.longest n less w.front) (λ less. w.longest m less v.front)
+
+no_text_same : (bytes : List ℕ) (r other : Refusal) → IsNoText bytes r → IsNoText bytes other → other ≡ r
+no_text_same bytes r other n m =
+    m.is ∙ ap (λ (k : ℕ). record { rule = rule.Utf8; at = end_of (take k bytes); found = 0; limit = 0 }) (one_count bytes m.count n.count m.valid n.valid) ∙ sym n.is
+
+-- the same tokens stop at the same place
+no_program_same : (bytes : List ℕ) (r other : Refusal) → IsNoProgram bytes r → IsNoProgram bytes other → other ≡ r
+no_program_same bytes r other n m =
+    let toks = one_toks (chars bytes) m.toks n.toks m.has n.has in
+    let left : m.left ≡ n.left = syntax-same n.toks m.left n.left (subst (λ (ts : List Tok). IsSyntaxAt ts m.left) toks m.syntax) n.syntax in
+    m.is ∙ ap (λ (k : ℕ). refusal_of (Syntax k) m.toks (end_of bytes)) left ∙ ap (λ (ts : List Tok). refusal_of (Syntax n.left) ts (end_of bytes)) toks ∙ sym n.is
+
+too_deep_same : (bytes : List ℕ) (r other : Refusal) → IsTooDeep bytes r → IsTooDeep bytes other → other ≡ r
+too_deep_same bytes r other n m =
+    let toks = one_toks (chars bytes) m.toks n.toks m.has n.has in
+    let left : m.left ≡ n.left = deep-same n.toks m.left n.left (subst (λ (ts : List Tok). IsTooDeepAt ts m.left) toks m.nesting) n.nesting in
+    m.is ∙ ap (λ (k : ℕ). refusal_of (Nesting k) m.toks (end_of bytes)) left ∙ ap (λ (ts : List Tok). refusal_of (Nesting n.left) ts (end_of bytes)) toks ∙ sym n.is
+
+not_both : (bytes : List ℕ) (r other : Refusal) → IsNoProgram bytes r → IsTooDeep bytes other → ⊥
+not_both bytes r other n m =
+    syntax-not_deep m.toks n.left m.left (subst (λ (ts : List Tok). IsSyntaxAt ts n.left) (one_toks (chars bytes) n.toks m.toks n.has m.has) n.syntax) m.nesting
+
+no_token_in : (bytes : List ℕ) (r : Refusal) (toks : List Tok) → IsNoToken (chars bytes) r → HasToks (chars bytes) toks → ⊥
+no_token_in bytes r toks n has = no_reading (chars bytes) first_place r.at has.lexed n.stops has.splits
+
+-- a source is refused in one way
+pub one_source_refusal : (bytes : List ℕ) (r other : Refusal) → IsRefused bytes r → IsRefused bytes other → other ≡ r
+one_source_refusal bytes r other (Utf8 n) (Utf8 m) = no_text_same bytes r other n m
+one_source_refusal bytes r other (Utf8 n) (Token text m) = absurd (no_text bytes n.count n.valid text)
+one_source_refusal bytes r other (Utf8 n) (Program m) = absurd (no_text bytes n.count n.valid m.text)
+one_source_refusal bytes r other (Utf8 n) (Depth m) = absurd (no_text bytes n.count n.valid m.text)
+one_source_refusal bytes r other (Token text n) (Utf8 m) = absurd (no_text bytes m.count m.valid text)
+one_source_refusal bytes r other (Token text n) (Token text' m) = one_refusal (chars bytes) r other n m
+one_source_refusal bytes r other (Token text n) (Program m) = absurd (no_token_in bytes r m.toks n m.has)
+one_source_refusal bytes r other (Token text n) (Depth m) = absurd (no_token_in bytes r m.toks n m.has)
+one_source_refusal bytes r other (Program n) (Utf8 m) = absurd (no_text bytes m.count m.valid n.text)
+one_source_refusal bytes r other (Program n) (Token text m) = absurd (no_token_in bytes other n.toks m n.has)
+one_source_refusal bytes r other (Program n) (Program m) = no_program_same bytes r other n m
+one_source_refusal bytes r other (Program n) (Depth m) = absurd (not_both bytes r other n m)
+one_source_refusal bytes r other (Depth n) (Utf8 m) = absurd (no_text bytes m.count m.valid n.text)
+one_source_refusal bytes r other (Depth n) (Token text m) = absurd (no_token_in bytes other n.toks m n.has)
+one_source_refusal bytes r other (Depth n) (Program m) = absurd (not_both bytes other r m n)
+one_source_refusal bytes r other (Depth n) (Depth m) = too_deep_same bytes r other n m
 
 -- the same of what a call gave
 

@@ -119,6 +119,7 @@ pub fn parse<'a>(alloc: Global, arena: &'a Arena, bytes: &'a [u8]) -> Result<&'a
     ensures accepted { IfOk result (λ x. (refusal : Refusal) → ¬ IsRefused bytes.now refusal) }
     ensures refused { (refusal : Refusal) → result ≡ Err (fault.Refused refusal) → IsRefused bytes.now refusal }
     ensures no_tree { (refusal : Refusal) → result ≡ Err (fault.Refused refusal) → (tree : ProgramTree) → ¬ IsSource bytes.now tree }
+    ensures one_refusal { (refusal : Refusal) → result ≡ Err (fault.Refused refusal) → (other : Refusal) → IsRefused bytes.now other → other ≡ refusal }
 {
     read(alloc, arena, bytes)
 }
