@@ -20,9 +20,10 @@ use Rattle.tw_parse.specs.Lexed.{HasToks}
 use Rattle.tw_parse.specs.ReadingStatements.{whole_at}
 use Rattle.tw_parse.specs.Parsed.{IsNoText, IsParsed, IsStopped, NoText, NoToken, Halted, IsFault, refusal_of, end_of}
 use Rattle.tw_parse.specs.Sources.{IsNoProgram, IsTooDeep, IsSource, IsRefused, Utf8, Token, Program, Depth}
-use Rattle.tw_parse.proofs.Lexings.{one_toks}
-use Rattle.tw_parse.proofs.Texts.{read-tree, read-syntax, read-nesting, tree-same}
-use Rattle.tw_parse.proofs.Verdicts.{program-not_syntax, shallow-not_deep, syntax-same, deep-same, syntax-not_deep}
+use Rattle.tw_parse.proofs.tokens.Lexings.{one_toks}
+use Rattle.tw_parse.proofs.forms.OneProgram.{tree-same}
+use Rattle.tw_parse.proofs.reading.Readings.{read-tree, read-syntax, read-nesting}
+use Rattle.tw_parse.proofs.machine.Verdicts.{program-not_syntax, shallow-not_deep, syntax-same, deep-same, syntax-not_deep}
 
 pub source_of : (bytes : List ℕ) (tree : ProgramTree) → IsParsed bytes tree → IsSource bytes tree
 source_of bytes tree p =

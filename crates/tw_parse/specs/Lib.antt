@@ -10,6 +10,5 @@ pub mod ReadingStatements
 pub mod Parts
 pub mod Lexed
 pub mod Parsed
-pub mod Checks
 pub mod Machine
 pub mod Sources

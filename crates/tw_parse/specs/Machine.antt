@@ -5,7 +5,7 @@ use Rattle.tw_parse.specs.declared.word.Mark.{Mark}
 use Rattle.tw_parse.specs.declared.word.Mark.TheVariants as m
 use Rattle.tw_parse.specs.Words.{W, Name, Number, Sign, Tok, name_at, sign_at}
 use Rattle.tw_parse.specs.Whole.{closes}
-use Rattle.tw_parse.specs.Checks.{is_mark, is_step, is_small}
+use Rattle.tw_parse.specs.Steps.{is_mark, is_step, is_small}
 
 -- a mark that may be awaited alone: it opens no bracket, announces none, and goes on with no path
 abbrev pub stands_alone : Mark → Bool
@@ -107,22 +107,8 @@ taken_mark false st = Take st
 abbrev pub next_mark : Mark → W → List N → Next
 next_mark mark w st = when (is_mark mark w) (taken_mark (closes (Sign mark)) st)
 
-abbrev pub next_name : W → List N → Next
-next_name (Name text) st = Take st
-next_name w st = Stop
-
-abbrev pub next_step : W → List N → Next
-next_step (Number value) st = when (is_step value) (Take st)
-next_step w st = Stop
-
-abbrev pub next_small : W → List N → Next
-next_small (Number value) st = when (is_small value) (Take st)
-next_small w st = Stop
-
-abbrev pub next_angled : W → List N → Next
-next_angled (Sign m.Less) st = Open (Type' ∷ TheMark m.More refl ∷ st)
-next_angled w st = Stop
-
+-- what a word makes of a type, an atom, an expression, what may follow an atom, and a statement: the table below has
+-- each of them more than once
 abbrev pub next_type : W → List N → Next
 next_type (Sign m.Uint) st = Take st
 next_type (Sign m.Bool) st = Take st
@@ -130,18 +116,6 @@ next_type (Name text) st = Take st
 next_type (Sign m.Ptr) st = Take (Angled' ∷ st)
 next_type (Sign m.Open) st = Open (Paren' ∷ st)
 next_type w st = Stop
-
-abbrev pub next_paren : W → List N → Next
-next_paren (Sign m.Close) st = Shut st
-next_paren w st = next_type w (TheMark m.Comma refl ∷ Type' ∷ TheMark m.Close refl ∷ st)
-
-abbrev pub next_path : W → List N → Next
-next_path (Name text) st = Take (Steps' ∷ st)
-next_path w st = Stop
-
-abbrev pub next_steps : W → List N → Next
-next_steps (Sign m.Dot) st = Take (Step' ∷ Steps' ∷ st)
-next_steps w st = Pop
 
 abbrev pub next_atom : W → List N → Next
 next_atom (Name text) st = Take (Steps' ∷ st)
@@ -158,10 +132,6 @@ next_expr (Sign m.Not) st = Take (Atom' ∷ st)
 next_expr (Sign m.Open) st = Open (ExprParen' ∷ st)
 next_expr w st = next_atom w (OpTail' ∷ st)
 
-abbrev pub next_expr_paren : W → List N → Next
-next_expr_paren (Sign m.Close) st = Shut (OpTail' ∷ st)
-next_expr_paren w st = next_atom w (TheMark m.Comma refl ∷ Atom' ∷ TheMark m.Close refl ∷ st)
-
 abbrev pub next_op_tail : W → List N → Next
 next_op_tail (Sign m.Plus) st = Take (Atom' ∷ st)
 next_op_tail (Sign m.Minus) st = Take (Atom' ∷ st)
@@ -173,40 +143,6 @@ next_op_tail (Sign m.Both) st = Take (Atom' ∷ st)
 next_op_tail (Sign m.Either) st = Take (Atom' ∷ st)
 next_op_tail w st = Pop
 
-abbrev pub next_rhs : W → List N → Next
-next_rhs (Sign m.Alloc) st = Take (Angled' ∷ st)
-next_rhs (Name text) st = Take (AfterName' ∷ st)
-next_rhs w st = next_expr w st
-
-abbrev pub next_after_name : W → List N → Next
-next_after_name (Sign m.Dot) st = Take (Step' ∷ Steps' ∷ OpTail' ∷ st)
-next_after_name (Sign m.OpenBracket) st = Take (Bound' ∷ TheMark m.CloseBracket refl ∷ CallArgs' ∷ st)
-next_after_name (Sign m.Open) st = Open (Args' ∷ st)
-next_after_name w st = next_op_tail w st
-
-abbrev pub next_bound : W → List N → Next
-next_bound (Number value) st = next_small (Number value) st
-next_bound (Name text) st = Take (BoundTail' ∷ st)
-next_bound w st = Stop
-
-abbrev pub next_bound_tail : W → List N → Next
-next_bound_tail (Sign m.Minus) st = Take (Small' ∷ st)
-next_bound_tail w st = Pop
-
-abbrev pub next_call_args : W → List N → Next
-next_call_args (Sign m.Open) st = Open (Args' ∷ st)
-next_call_args w st = Stop
-
-abbrev pub next_args : W → List N → Next
-next_args (Sign m.Close) st = Shut st
-next_args (Name text) st = Take (MoreArgs' ∷ st)
-next_args w st = Stop
-
-abbrev pub next_more_args : W → List N → Next
-next_more_args (Sign m.Comma) st = Take (Name' ∷ MoreArgs' ∷ st)
-next_more_args (Sign m.Close) st = Shut st
-next_more_args w st = Stop
-
 abbrev pub next_stmt : W → List N → Next
 next_stmt (Sign m.Let) st = Take (Name' ∷ LetArrow' ∷ Rhs' ∷ TheMark m.Semicolon refl ∷ st)
 next_stmt (Name text) st = Take (Steps' ∷ TheMark m.Exchange refl ∷ Path' ∷ TheMark m.Semicolon refl ∷ st)
@@ -217,89 +153,77 @@ next_stmt (Sign m.OpenBrace) st = Open (Stmts' ∷ st)
 next_stmt (Sign m.Skip) st = Take (TheMark m.Semicolon refl ∷ st)
 next_stmt w st = Stop
 
-abbrev pub next_let_arrow : W → List N → Next
-next_let_arrow (Sign m.Gets) st = Take st
-next_let_arrow (Sign m.Arrow) st = Take st
-next_let_arrow w st = Stop
-
-abbrev pub next_stmts : W → List N → Next
-next_stmts (Sign m.CloseBrace) st = Shut st
-next_stmts w st = next_stmt w (Stmts' ∷ st)
-
-abbrev pub next_else_tail : W → List N → Next
-next_else_tail (Sign m.Else) st = Take (Block' ∷ st)
-next_else_tail w st = Pop
-
-abbrev pub next_block : W → List N → Next
-next_block (Sign m.OpenBrace) st = Open (Stmts' ∷ st)
-next_block w st = Stop
-
-abbrev pub next_body : W → List N → Next
-next_body (Sign m.Return) st = Take (Name' ∷ TheMark m.Semicolon refl ∷ TheMark m.CloseBrace refl ∷ st)
-next_body w st = next_stmt w (Body' ∷ st)
-
-abbrev pub next_fun_body : W → List N → Next
-next_fun_body (Sign m.OpenBrace) st = Open (Body' ∷ st)
-next_fun_body w st = Stop
-
-abbrev pub next_after_fun_name : W → List N → Next
-next_after_fun_name (Sign m.OpenBracket) st = Take (Name' ∷ TheMark m.CloseBracket refl ∷ FunParams' ∷ st)
-next_after_fun_name (Sign m.Open) st = Open (Params' ∷ st)
-next_after_fun_name w st = Stop
-
-abbrev pub next_fun_params : W → List N → Next
-next_fun_params (Sign m.Open) st = Open (Params' ∷ st)
-next_fun_params w st = Stop
-
-abbrev pub next_params : W → List N → Next
-next_params (Sign m.Close) st = Shut st
-next_params (Name text) st = Take (TheMark m.Colon refl ∷ Type' ∷ MoreParams' ∷ st)
-next_params w st = Stop
-
-abbrev pub next_more_params : W → List N → Next
-next_more_params (Sign m.Comma) st = Take (Name' ∷ TheMark m.Colon refl ∷ Type' ∷ MoreParams' ∷ st)
-next_more_params (Sign m.Close) st = Shut st
-next_more_params w st = Stop
-
-abbrev pub next_decl : W → List N → Next
-next_decl (Sign m.Type) st = Take (Name' ∷ TheMark m.Is refl ∷ Type' ∷ TheMark m.Semicolon refl ∷ st)
-next_decl (Sign m.Fun) st = Take (Name' ∷ AfterFunName' ∷ TheMark m.Arrow refl ∷ Type' ∷ FunBody' ∷ st)
-next_decl w st = Stop
-
 -- what a word makes of the first that is awaited, with what is awaited behind it
 abbrev pub next : N → W → List N → Next
 next (TheMark mark alone) w st = next_mark mark w st
-next Name' w st = next_name w st
-next Step' w st = next_step w st
-next Small' w st = next_small w st
-next Angled' w st = next_angled w st
+next Name' (Name text) st = Take st
+next Name' w st = Stop
+next Step' (Number value) st = when (is_step value) (Take st)
+next Step' w st = Stop
+next Small' (Number value) st = when (is_small value) (Take st)
+next Small' w st = Stop
+next Angled' (Sign m.Less) st = Open (Type' ∷ TheMark m.More refl ∷ st)
+next Angled' w st = Stop
 next Type' w st = next_type w st
-next Paren' w st = next_paren w st
-next Path' w st = next_path w st
-next Steps' w st = next_steps w st
+next Paren' (Sign m.Close) st = Shut st
+next Paren' w st = next_type w (TheMark m.Comma refl ∷ Type' ∷ TheMark m.Close refl ∷ st)
+next Path' (Name text) st = Take (Steps' ∷ st)
+next Path' w st = Stop
+next Steps' (Sign m.Dot) st = Take (Step' ∷ Steps' ∷ st)
+next Steps' w st = Pop
 next Atom' w st = next_atom w st
 next Expr' w st = next_expr w st
-next ExprParen' w st = next_expr_paren w st
+next ExprParen' (Sign m.Close) st = Shut (OpTail' ∷ st)
+next ExprParen' w st = next_atom w (TheMark m.Comma refl ∷ Atom' ∷ TheMark m.Close refl ∷ st)
 next OpTail' w st = next_op_tail w st
-next Rhs' w st = next_rhs w st
-next AfterName' w st = next_after_name w st
-next Bound' w st = next_bound w st
-next BoundTail' w st = next_bound_tail w st
-next CallArgs' w st = next_call_args w st
-next Args' w st = next_args w st
-next MoreArgs' w st = next_more_args w st
+next Rhs' (Sign m.Alloc) st = Take (Angled' ∷ st)
+next Rhs' (Name text) st = Take (AfterName' ∷ st)
+next Rhs' w st = next_expr w st
+next AfterName' (Sign m.Dot) st = Take (Step' ∷ Steps' ∷ OpTail' ∷ st)
+next AfterName' (Sign m.OpenBracket) st = Take (Bound' ∷ TheMark m.CloseBracket refl ∷ CallArgs' ∷ st)
+next AfterName' (Sign m.Open) st = Open (Args' ∷ st)
+next AfterName' w st = next_op_tail w st
+next Bound' (Number value) st = when (is_small value) (Take st)
+next Bound' (Name text) st = Take (BoundTail' ∷ st)
+next Bound' w st = Stop
+next BoundTail' (Sign m.Minus) st = Take (Small' ∷ st)
+next BoundTail' w st = Pop
+next CallArgs' (Sign m.Open) st = Open (Args' ∷ st)
+next CallArgs' w st = Stop
+next Args' (Sign m.Close) st = Shut st
+next Args' (Name text) st = Take (MoreArgs' ∷ st)
+next Args' w st = Stop
+next MoreArgs' (Sign m.Comma) st = Take (Name' ∷ MoreArgs' ∷ st)
+next MoreArgs' (Sign m.Close) st = Shut st
+next MoreArgs' w st = Stop
 next Stmt' w st = next_stmt w st
-next LetArrow' w st = next_let_arrow w st
-next Stmts' w st = next_stmts w st
-next ElseTail' w st = next_else_tail w st
-next Block' w st = next_block w st
-next Body' w st = next_body w st
-next FunBody' w st = next_fun_body w st
-next AfterFunName' w st = next_after_fun_name w st
-next FunParams' w st = next_fun_params w st
-next Params' w st = next_params w st
-next MoreParams' w st = next_more_params w st
-next Decl' w st = next_decl w st
+next LetArrow' (Sign m.Gets) st = Take st
+next LetArrow' (Sign m.Arrow) st = Take st
+next LetArrow' w st = Stop
+next Stmts' (Sign m.CloseBrace) st = Shut st
+next Stmts' w st = next_stmt w (Stmts' ∷ st)
+next ElseTail' (Sign m.Else) st = Take (Block' ∷ st)
+next ElseTail' w st = Pop
+next Block' (Sign m.OpenBrace) st = Open (Stmts' ∷ st)
+next Block' w st = Stop
+next Body' (Sign m.Return) st = Take (Name' ∷ TheMark m.Semicolon refl ∷ TheMark m.CloseBrace refl ∷ st)
+next Body' w st = next_stmt w (Body' ∷ st)
+next FunBody' (Sign m.OpenBrace) st = Open (Body' ∷ st)
+next FunBody' w st = Stop
+next AfterFunName' (Sign m.OpenBracket) st = Take (Name' ∷ TheMark m.CloseBracket refl ∷ FunParams' ∷ st)
+next AfterFunName' (Sign m.Open) st = Open (Params' ∷ st)
+next AfterFunName' w st = Stop
+next FunParams' (Sign m.Open) st = Open (Params' ∷ st)
+next FunParams' w st = Stop
+next Params' (Sign m.Close) st = Shut st
+next Params' (Name text) st = Take (TheMark m.Colon refl ∷ Type' ∷ MoreParams' ∷ st)
+next Params' w st = Stop
+next MoreParams' (Sign m.Comma) st = Take (Name' ∷ TheMark m.Colon refl ∷ Type' ∷ MoreParams' ∷ st)
+next MoreParams' (Sign m.Close) st = Shut st
+next MoreParams' w st = Stop
+next Decl' (Sign m.Type) st = Take (Name' ∷ TheMark m.Is refl ∷ Type' ∷ TheMark m.Semicolon refl ∷ st)
+next Decl' (Sign m.Fun) st = Take (Name' ∷ AfterFunName' ∷ TheMark m.Arrow refl ∷ Type' ∷ FunBody' ∷ st)
+next Decl' w st = Stop
 
 -- a word that belongs to what is awaited behind is seen there
 abbrev pub settled : Next → Next → Next
@@ -308,7 +232,7 @@ settled now behind = now
 
 -- what a word makes of a stack; behind a program a further declaration may stand
 abbrev pub move : W → List N → Next
-move w [] = next_decl w []
+move w [] = next Decl' w []
 move w (n ∷ st) = settled (next n w st) (move w st)
 
 -- the tokens are a program, or with so many tokens left they go wrong: by their grammar, or by the brackets that are open

@@ -89,6 +89,14 @@ is_number (Name text) = false
 is_number (Number value) = true
 is_number (Sign mark) = false
 
+-- a step of a path goes to the first part or to the second
+abbrev pub is_step : ℕ → Bool
+is_step value = value == 1 || value == 2
+
+-- a bound's number is at most 255
+abbrev pub is_small : ℕ → Bool
+is_small value = nat_lt value 256
+
 -- whether the first token is this mark
 abbrev pub leads : Mark → List Tok → Bool
 leads mark [] = false
@@ -147,13 +155,13 @@ take_number (t ∷ ts) = number_from t.word (suc (length ts)) ts
 unfoldable pub take_small : Reader ℕ
 take_small ts = do
   number ← take_number ts
-  if nat_lt number.0 256 then Ok number else Err (Syntax (length ts))
+  if is_small number.0 then Ok number else Err (Syntax (length ts))
 
 -- the number 1 or 2
 unfoldable pub take_half : Reader ℕ
 take_half ts = do
   number ← take_number ts
-  if number.0 == 1 || number.0 == 2 then Ok number else Err (Syntax (length ts))
+  if is_step number.0 then Ok number else Err (Syntax (length ts))
 
 -- items as long as the tokens ask for one, so many at the most
 unfoldable pub many_at : {X : Type 0} → (List Tok → Bool) → Reader X → ℕ → Reader (List X)

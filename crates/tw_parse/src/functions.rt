@@ -205,7 +205,7 @@ fn take_body<'a>(
 }
 
 /// A function, in which so many brackets may open.
-#[tactic(auto, using(crate::proofs::Chains::chains), unfolding(crate::specs::ReadingStatements::fun_at))]
+#[tactic(auto, using(crate::proofs::code::Chains::chains), unfolding(crate::specs::ReadingStatements::fun_at))]
 pub fn fun<'a>(
     arena: &'a Arena,
     items: &[Item<'a>],

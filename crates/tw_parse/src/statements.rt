@@ -57,7 +57,7 @@ fn block<'a>(
 
 /// A block as a statement.
 #[cycle(statements)]
-#[tactic(auto, using(crate::proofs::Chains::chains), unfolding(crate::specs::ReadingStatements::block_stmt_with))]
+#[tactic(auto, using(crate::proofs::code::Chains::chains), unfolding(crate::specs::ReadingStatements::block_stmt_with))]
 fn block_stmt<'a>(
     arena: &'a Arena,
     items: &[Item<'a>],
@@ -73,7 +73,7 @@ fn block_stmt<'a>(
 
 /// An `else` and its block, where there is one.
 #[cycle(statements)]
-#[tactic(auto, using(crate::proofs::Chains::chains), unfolding(crate::specs::ReadingStatements::else_with))]
+#[tactic(auto, using(crate::proofs::code::Chains::chains), unfolding(crate::specs::ReadingStatements::else_with))]
 fn other<'a>(
     arena: &'a Arena,
     items: &[Item<'a>],
@@ -92,7 +92,7 @@ fn other<'a>(
 
 /// An `if`.
 #[cycle(statements)]
-#[tactic(auto, using(crate::proofs::Chains::chains), unfolding(crate::specs::ReadingStatements::if_with))]
+#[tactic(auto, using(crate::proofs::code::Chains::chains), unfolding(crate::specs::ReadingStatements::if_with))]
 fn if_stmt<'a>(
     arena: &'a Arena,
     items: &[Item<'a>],
@@ -110,7 +110,7 @@ fn if_stmt<'a>(
 
 /// A `with`.
 #[cycle(statements)]
-#[tactic(auto, using(crate::proofs::Chains::chains), unfolding(crate::specs::ReadingStatements::with_with))]
+#[tactic(auto, using(crate::proofs::code::Chains::chains), unfolding(crate::specs::ReadingStatements::with_with))]
 fn with_stmt<'a>(
     arena: &'a Arena,
     items: &[Item<'a>],

@@ -2,7 +2,7 @@ use Rattle.std.proofs.Common.{sym, ◌∙◌}
 use Rattle.std.proofs.lemmas.List.{map_push}
 use Rattle.std.proofs.lemmas.Result.{err_from_is_err_and}
 use Rattle.tw_syntax.specs.Names.{name_tree}
-use Rattle.tw_parse.proofs.Many.{starts_with, goes_on, fails, stops, is_done}
+use Rattle.tw_parse.proofs.code.Many.{starts_with, goes_on, fails, stops, is_done}
 use Rattle.tw_parse.proofs.calls.more_names.Goals as goal
 
 pub loop-init : goal.loop-init

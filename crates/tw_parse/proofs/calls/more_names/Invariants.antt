@@ -4,7 +4,7 @@ use Rattle.tw_parse.specs.declared.word.Mark.TheVariants as m
 use Rattle.tw_parse.specs.Items.{toks}
 use Rattle.tw_parse.specs.Steps.{leads, all_at, put_first}
 use Rattle.tw_parse.specs.Reading.{comma_name_at}
-use Rattle.tw_parse.proofs.Many.{Reads}
+use Rattle.tw_parse.proofs.code.Many.{Reads}
 use Rattle.tw_parse.proofs.calls.more_names.Given as goal
 
 abbrev pub invariant-loop : goal.invariant-loop

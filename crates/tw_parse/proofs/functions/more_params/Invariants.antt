@@ -5,7 +5,7 @@ use Rattle.tw_parse.specs.Items.{toks}
 use Rattle.tw_parse.specs.Steps.{leads, all_at, put_first}
 use Rattle.tw_parse.specs.Reading.{type_at}
 use Rattle.tw_parse.specs.ReadingStatements.{comma_param_with}
-use Rattle.tw_parse.proofs.Many.{Reads}
+use Rattle.tw_parse.proofs.code.Many.{Reads}
 use Rattle.tw_parse.proofs.functions.more_params.Given as goal
 
 abbrev pub invariant-loop : goal.invariant-loop

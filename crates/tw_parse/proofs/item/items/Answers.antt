@@ -1,6 +1,6 @@
 use Rattle.std.proofs.Common.{refl}
 use Rattle.std.proofs.lemmas.List.{take_all}
-use Rattle.tw_parse.proofs.Seen.{goes_on, at_all}
+use Rattle.tw_parse.proofs.tokens.Seen.{goes_on, at_all}
 use Rattle.tw_parse.proofs.item.items.Goals as goal
 
 pub unreachable-requires : goal.unreachable-requires

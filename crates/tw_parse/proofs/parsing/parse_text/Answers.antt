@@ -1,4 +1,4 @@
-use Rattle.tw_parse.proofs.Seen.{all_have_words}
+use Rattle.tw_parse.proofs.tokens.Seen.{all_have_words}
 use Rattle.tw_parse.proofs.parsing.parse_text.Goals as goal
 
 pub items-requires : goal.items-requires

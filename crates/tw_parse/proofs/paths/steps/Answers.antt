@@ -1,6 +1,6 @@
 use Rattle.std.proofs.Common.{sym, ◌∙◌}
 use Rattle.std.proofs.lemmas.Result.{err_from_is_err_and}
-use Rattle.tw_parse.proofs.Many.{starts, goes_on, fails, stops, is_done}
+use Rattle.tw_parse.proofs.code.Many.{starts, goes_on, fails, stops, is_done}
 use Rattle.tw_parse.proofs.paths.steps.Goals as goal
 
 pub loop-init : goal.loop-init

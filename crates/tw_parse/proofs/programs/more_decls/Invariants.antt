@@ -3,7 +3,7 @@ use Rattle.tw_syntax.specs.Programs.{decl_tree}
 use Rattle.tw_parse.specs.Items.{toks}
 use Rattle.tw_parse.specs.Steps.{all_at, put_first}
 use Rattle.tw_parse.specs.ReadingStatements.{is_more, decl_at}
-use Rattle.tw_parse.proofs.Many.{Reads}
+use Rattle.tw_parse.proofs.code.Many.{Reads}
 use Rattle.tw_parse.proofs.programs.more_decls.Given as goal
 
 abbrev pub invariant-loop : goal.invariant-loop

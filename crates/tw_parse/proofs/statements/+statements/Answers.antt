@@ -3,7 +3,7 @@ use Rattle.std.proofs.lemmas.List.{map_push}
 use Rattle.std.proofs.lemmas.Result.{err_from_is_err_and}
 use Rattle.tw_syntax.specs.Statements.{stmt_tree}
 use Rattle.tw_parse.specs.ReadingStatements.{block_with}
-use Rattle.tw_parse.proofs.Many.{goes_on, fails, fails_first, stops, is_done}
+use Rattle.tw_parse.proofs.code.Many.{goes_on, fails, fails_first, stops, is_done}
 use Rattle.tw_parse.proofs.statements.+statements.Goals as goal
 
 pub stmts-loop-preserved : goal.stmts-loop-preserved

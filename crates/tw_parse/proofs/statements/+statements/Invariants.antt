@@ -3,7 +3,7 @@ use Rattle.tw_syntax.specs.Statements.{stmt_tree}
 use Rattle.tw_parse.specs.Items.{toks}
 use Rattle.tw_parse.specs.Steps.{all_at}
 use Rattle.tw_parse.specs.ReadingStatements.{goes_before, stmt_at}
-use Rattle.tw_parse.proofs.Many.{Reads}
+use Rattle.tw_parse.proofs.code.Many.{Reads}
 use Rattle.tw_parse.proofs.statements.+statements.Given as goal
 
 abbrev pub decreases-stmt : goal.decreases-stmt

@@ -1,4 +1,4 @@
-use Rattle.tw_parse.proofs.Lefts.{drop-toks}
+use Rattle.tw_parse.proofs.code.Lefts.{drop-toks}
 use Rattle.tw_parse.proofs.take.first.Goals as goal
 
 pub returns-then-at-items-clause-some : goal.returns-then-at-items-clause-some

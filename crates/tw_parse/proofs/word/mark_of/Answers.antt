@@ -8,7 +8,7 @@ use Rattle.std.specs.Str.{chars}
 use Rattle.tw_parse.specs.declared.word.Mark.TheVariants as m
 use Rattle.tw_parse.specs.Words.{mark_text, all_marks}
 use Rattle.tw_parse.specs.Steps.{mark_number}
-use Rattle.tw_parse.proofs.Marks.{mark_at-number, mark_number-lt, chars-mark_text}
+use Rattle.tw_parse.proofs.tokens.Words.{mark_at-number, mark_number-lt, chars-mark_text}
 use Rattle.tw_parse.proofs.word.mark_of.Goals as goal
 
 pub returns-then-eq-clause-some : goal.returns-then-eq-clause-some
