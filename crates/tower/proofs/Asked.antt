@@ -1,13 +1,15 @@
 -- The words that ask for settings are read.
-use Rattle.std.proofs.Common.{◌≡◌, ◌∙◌, ap, sym, ℕ, ◌+◌, Bool, true, false, List, [], ◌∷◌, ◌++◌, codes, decimal, Option, Some, None, option_and_then, option_to_list, arith, zero-add, refl}
+use Rattle.std.proofs.Common.{◌≡◌, ◌∙◌, ap, sym, ℕ, ◌+◌, Bool, true, false, List, [], ◌∷◌, ◌++◌, codes, decimal, Option, Some, None, option_map, option_and_then, option_to_list, arith, zero-add, refl}
 use Rattle.std.specs.Str.{bytes_eq}
 use Rattle.std.specs.List.{flat_map}
 use Rattle.std.proofs.lemmas.Slice.Eq.{bytes_eq-Decides}
 use Rattle.tower.specs.declared.options.Options.{Options}
+use Rattle.tower.specs.declared.options.Command.{Command}
+use Rattle.tower.specs.declared.options.Command.TheVariants as command
 use Rattle.tower.specs.declared.options.Key.{Key}
 use Rattle.tower.specs.declared.options.Key.TheVariants as keys
 use Rattle.tower.specs.declared.options.Given.{Given}
-use Rattle.tower.specs.Words.{Choice, Word, Addr, Entry, Inverse, choice_words, word_widths, addr_widths, entries, inverses, Asks}
+use Rattle.tower.specs.Words.{Choice, Word, Addr, Entry, Inverse, choice_words, word_widths, addr_widths, entries, inverses, AsksFile, Asks}
 use Rattle.tower.specs.ReadingWords.{after_key, after_value, after_pending, settings, settings_after, nothing, read_words}
 use Rattle.tower.proofs.Numbers.{number_in-decimal}
 use Rattle.tower.proofs.Asking.{pending_words, once, IsWidth, Completes, AsksOn}
@@ -222,15 +224,19 @@ complete (word ∷ words) given options on =
     let step = goes given given.pending word words options refl on in
     ap (option_and_then (λ more. settings_after more words)) step.taken ∙ complete words step.more options step.on
 
-command_asked : (command : List ℕ) (words : List (List ℕ)) (options : Options) → command ≡ codes "compile" → settings_after nothing words ≡ Some options → read_words (command ∷ words) ≡ Some options
-command_asked command words options same h = rw ((bytes_eq-Decides command (codes "compile")).1 same) h
+-- what the words behind `compile` ask for is read from them
+file-complete : (word : List ℕ) (words : List (List ℕ)) (options : Options) → AsksFile (word ∷ words) options → settings_after nothing words ≡ Some options
+file-complete word words options asks = complete words nothing options (record {
+  choices = asks.choices;
+  spelled = tail_is word _ words _ asks.spelled;
+  completes = record { word = asks.one_word; addr = asks.one_addr; entry = zero-add _ ∙ asks.one_entry; inverse = zero-add _ ∙ asks.inverse_if_wanted; word_in_range = asks.word_in_range; addr_in_range = asks.addr_in_range };
+})
 
--- the words that ask for settings are read as these
-pub asks-complete : (words : List (List ℕ)) (options : Options) → Asks words options → read_words words ≡ Some options
-asks-complete [] options asks = let e = asks.spelled in cc
-asks-complete (command ∷ words) options asks =
-    command_asked command words options (head_is command _ words _ asks.spelled) (complete words nothing options (record {
-      choices = asks.choices;
-      spelled = tail_is command _ words _ asks.spelled;
-      completes = record { word = asks.one_word; addr = asks.one_addr; entry = zero-add _ ∙ asks.one_entry; inverse = zero-add _ ∙ asks.inverse_if_wanted; word_in_range = asks.word_in_range; addr_in_range = asks.addr_in_range };
-    }))
+compile-read : (word : List ℕ) (words : List (List ℕ)) (options : Options) → word ≡ codes "compile" → settings_after nothing words ≡ Some options → read_words (word ∷ words) ≡ Some (command.Compile options)
+compile-read word words options same h = rw ((bytes_eq-Decides word (codes "compile")).1 same) (ap (option_map command.Compile) h)
+
+-- the words that ask for a command are read as this
+pub asks-complete : (words : List (List ℕ)) (asked : Command) → Asks words asked → read_words words ≡ Some asked
+asks-complete words command.Format asks = rw asks refl
+asks-complete [] (command.Compile options) asks = let e = asks.spelled in cc
+asks-complete (word ∷ words) (command.Compile options) asks = compile-read word words options (head_is word _ words _ asks.spelled) (file-complete word words options asks)

@@ -4,12 +4,14 @@ use Rattle.std.specs.Str.{bytes_eq}
 use Rattle.std.specs.List.{flat_map}
 use Rattle.std.proofs.lemmas.Slice.Eq.{bytes_eq-Decides}
 use Rattle.tower.specs.declared.options.Options.{Options}
+use Rattle.tower.specs.declared.options.Command.{Command}
+use Rattle.tower.specs.declared.options.Command.TheVariants as command
 use Rattle.tower.specs.declared.options.Key.{Key}
 use Rattle.tower.specs.declared.options.Key.TheVariants as keys
 use Rattle.tower.specs.declared.options.Given.{Given}
-use Rattle.tower.specs.Words.{Choice, Word, Addr, Entry, Inverse, choice_words, word_widths, addr_widths, entries, inverses, Asks}
-use Rattle.tower.specs.ReadingWords.{number_in, unless_given, after_key, after_value, after_pending, after_word, settings, settings_after, nothing, read_words}
-use Rattle.tower.proofs.Binds.{bind_some}
+use Rattle.tower.specs.Words.{Choice, Word, Addr, Entry, Inverse, choice_words, word_widths, addr_widths, entries, inverses, AsksFile, Asks}
+use Rattle.tower.specs.ReadingWords.{number_in, unless_given, after_key, after_value, after_pending, after_word, settings, settings_after, nothing, read_compile, read_format, read_words, IsNarrow}
+use Rattle.tower.proofs.Binds.{bind_some, some_is}
 use Rattle.tower.proofs.Numbers.{number_in-sound}
 
 -- the words of an option whose value is still to come
@@ -186,13 +188,13 @@ sound (word ∷ words) given options ranged h =
     back given found.0 given.pending word words options refl found.1
     (sound words found.0 options (ranged-word given found.0 given.pending word found.1 ranged) found.2)
 
-command_read : (command : List ℕ) (words : List (List ℕ)) (options : Options) (k : Bool) → bytes_eq command (codes "compile") ≡ k → cond k (settings_after nothing words) None ≡ Some options → Asks (command ∷ words) options
-command_read command words options true e h =
+-- the settings that are read behind `compile` are those that the words ask for
+file-sound : (words : List (List ℕ)) (options : Options) → settings_after nothing words ≡ Some options → AsksFile (codes "compile" ∷ words) options
+file-sound words options h =
     let on = sound words nothing options (record { word = tt; addr = tt }) h in
-    let same : command ≡ codes "compile" = (bytes_eq-Decides command (codes "compile")).0 e in
     record {
       choices = on.choices;
-      spelled = rw same (ap (λ ws. codes "compile" ∷ ws) on.spelled);
+      spelled = ap (λ ws. codes "compile" ∷ ws) on.spelled;
       one_word = on.completes.word;
       one_addr = on.completes.addr;
       one_entry = omega (arith, on.completes.entry);
@@ -200,9 +202,27 @@ command_read command words options true e h =
       word_in_range = on.completes.word_in_range;
       addr_in_range = on.completes.addr_in_range;
     }
-command_read command words options false e h = cc
+
+compile-sound : (words : List (List ℕ)) (found : Option Options) (asked : Command) → settings_after nothing words ≡ found → option_map command.Compile found ≡ Some asked → Asks (codes "compile" ∷ words) asked
+compile-sound words None asked e h = cc
+compile-sound words (Some options) asked e h = subst (Asks (codes "compile" ∷ words)) (some_is _ _ h) (file-sound words options e)
+
+format-sound : (words : List (List ℕ)) (asked : Command) → read_format words ≡ Some asked → Asks (codes "format" ∷ words) asked
+format-sound [] asked h = subst (Asks (codes "format" ∷ [])) (some_is _ _ h) refl
+format-sound (word ∷ words) asked h = cc
+
+by_first : (word : List ℕ) (words : List (List ℕ)) (asked : Command) (k l : Bool) → bytes_eq word (codes "compile") ≡ k → bytes_eq word (codes "format") ≡ l →
+    cond k (read_compile words) (cond l (read_format words) None) ≡ Some asked → Asks (word ∷ words) asked
+by_first word words asked true l e f h = rw ((bytes_eq-Decides word (codes "compile")).0 e) (compile-sound words (settings_after nothing words) asked refl h)
+by_first word words asked false true e f h = rw ((bytes_eq-Decides word (codes "format")).0 f) (format-sound words asked h)
+by_first word words asked false false e f h = cc
 
 -- the words that are read ask for what is read
-pub asks-sound : (words : List (List ℕ)) (options : Options) → read_words words ≡ Some options → Asks words options
-asks-sound [] options h = cc
-asks-sound (command ∷ words) options h = command_read command words options _ refl h
+pub asks-sound : (words : List (List ℕ)) (asked : Command) → read_words words ≡ Some asked → Asks words asked
+asks-sound [] asked h = cc
+asks-sound (word ∷ words) asked h = by_first word words asked (bytes_eq word (codes "compile")) (bytes_eq word (codes "format")) refl refl h
+
+-- the addresses that are asked for are of 1 to 8 bits
+pub narrow_command : (words : List (List ℕ)) (asked : Command) → Asks words asked → IsNarrow asked
+narrow_command words command.Format asks = tt
+narrow_command words (command.Compile options) asks = asks.addr_in_range

@@ -5,3 +5,7 @@ use Rattle.std.proofs.Common.{◌≡◌, Option, Some, None, option_and_then, re
 pub bind_some : {A B : Type 0} (f : A → Option B) (found : Option A) (y : B) → option_and_then f found ≡ Some y → (x : A) × (found ≡ Some x) × (f x ≡ Some y)
 bind_some f None y h = cc
 bind_some f (Some x) y h = (x, refl, h)
+
+-- what was found is one thing
+pub some_is : {A : Type 0} (x y : A) → Some x ≡ Some y → x ≡ y
+some_is x y e = cc

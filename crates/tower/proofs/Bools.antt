@@ -1,7 +1,19 @@
--- Tests that hold together.
-use Rattle.std.proofs.Common.{◌≡◌, Bool, true, false, ◌&&◌, refl}
+-- Tests that hold together, or lead to what is found.
+use Rattle.std.proofs.Common.{◌≡◌, Bool, true, false, ◌&&◌, cond, Option, Some, None, refl}
 
 -- where both hold, each does
 pub and_parts : (k l : Bool) → (k && l) ≡ true → (k ≡ true) × (l ≡ true)
 and_parts true l h = (refl, h)
 and_parts false l h = cc
+
+-- where each holds, both do
+pub and_both : (k l : Bool) → k ≡ true → l ≡ true → (k && l) ≡ true
+and_both k l e f = rw (e, f) refl
+
+-- what was found only where a test holds
+pub found_if : {A : Type 0} (k : Bool) (found : Option A) (x : A) → cond k found None ≡ Some x → (k ≡ true) × (found ≡ Some x)
+found_if true found x h = (refl, h)
+found_if false found x h = cc
+
+pub if_found : {A : Type 0} (k : Bool) (found : Option A) (x : A) → k ≡ true → found ≡ Some x → cond k found None ≡ Some x
+if_found k found x e h = rw e h

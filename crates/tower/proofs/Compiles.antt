@@ -1,5 +1,5 @@
 -- The defined file of a program can be trusted.
-use Rattle.std.proofs.Common.{◌≡◌, ◌∙◌, sym, subst, ℕ, ◌+◌, ◌<◌, ◌≤◌, Bool, true, false, List, [], ◌∷◌, length, map, Option, Some, None, arith, refl}
+use Rattle.std.proofs.Common.{◌≡◌, ◌∙◌, sym, subst, ℕ, ◌+◌, ◌<◌, ◌≤◌, Bool, true, false, List, [], ◌∷◌, length, arith, refl}
 use Rattle.tw_gate.specs.declared.gate.Level.TheVariants as levels
 use Rattle.tw_gate.specs.Gates.{PlainGate, X, directed, inverse}
 use Rattle.tw_gate.specs.Weight.{t_count}
@@ -13,10 +13,9 @@ use Rattle.tw_lower.specs.Correct.{IsConjunction}
 use Rattle.tw_lower.proofs.Implemented.{function_gates-conjunction, inverse-conjunction, implements}
 use Rattle.tw_lower.proofs.Places.{places, wires-within, t_count-function_gates}
 use Rattle.tower.specs.declared.options.Options.{Options}
-use Rattle.tower.specs.Form.{Form, is_right, parameters_of, boolean, function_of}
 use Rattle.tower.specs.DefinedFile.{file_of}
 use Rattle.tower.specs.Headline.{IsCompiled}
-use Rattle.tower.proofs.Conjunctions.{conjunction, t_count-directed}
+use Rattle.tower.proofs.Conjunctions.{t_count-directed}
 
 -- both directions are the same gates: loads, a flip, and the loads undone in reverse order
 directed-conjunction : (widths : Widths) {function : Function} {left right : List ℕ} (inverse : Bool) → IsConjunction function left right → directed inverse (function_gates widths [] function) ≡ function_gates widths [] function
@@ -52,23 +51,16 @@ valid widths inverse {function} is narrow few =
     valid_file widths function inverse _ (directed-conjunction widths inverse is ∙ function_gates-conjunction widths [] is)
     (valid_gates _ _ _ _ _ at.left_below at.right_below at.scratch_at at.wires_at within)
 
-parameters-few : (form : Form) → length (function_of form).parameters ≤ 2
-parameters-few form = by_second form.first form.second
-  where
-    by_second : (first : List ℕ) (second : Option (List ℕ)) → length (map boolean (parameters_of first second)) ≤ 2
-    by_second first None = omega arith
-    by_second first (Some second) = omega arith
-
--- the defined file of a program can be trusted
-pub compiled : (options : Options) (form : Form) → is_right form ≡ true → options.widths.addr ≤ 8 → IsCompiled options (function_of form) (file_of options.widths options.inverse (function_of form))
-compiled options form right narrow =
-    let is = conjunction form right in
-    let fine = valid options.widths options.inverse is narrow (parameters-few form) in
+-- the defined file of a function of the first form can be trusted
+pub compiled : (options : Options) {function : Function} {left right : List ℕ} → IsConjunction function left right → length function.parameters ≤ 2 → options.widths.addr ≤ 8 →
+    IsCompiled options function (file_of options.widths options.inverse function)
+compiled options {function} is few narrow =
+    let fine = valid options.widths options.inverse is narrow few in
     record {
       defined = refl;
       valid = fine;
       only_file = λ other rest more fits same. (file_text-tells other _ rest more fits fine same).0;
-      plain = function_gates options.widths [] (function_of form);
+      plain = function_gates options.widths [] function;
       plain_file = refl;
       direction = refl;
       implements = implements is;

@@ -16,24 +16,26 @@ use Rattle.tw_lower.specs.Circuits.{and_gates, function_gates}
 use Rattle.tw_lower.specs.Correct.{IsConjunction}
 use Rattle.tw_lower.proofs.Implemented.{function_gates-conjunction}
 use Rattle.tw_lower.proofs.Places.{places, t_count-function_gates}
-use Rattle.tower.specs.Form.{Form, is_name, is_among, parameters_of, are_names, is_right, boolean, function_of}
+use Rattle.tower.specs.Form.{Form, is_among, parameters_of, are_different, is_right, boolean, function_of}
 use Rattle.tower.specs.DefinedFile.{file_of}
 use Rattle.tower.proofs.Bools.{and_parts}
 
 -- what the test of a form says
-record Rightness (form : Form) : Type 0 where
+pub record Rightness (form : Form) : Type 0 where
   pub fresh : not (is_among form.result (parameters_of form.first form.second)) ≡ true
+  pub different : are_different (parameters_of form.first form.second) ≡ true
   pub left_known : is_among form.left (parameters_of form.first form.second) ≡ true
   pub right_known : is_among form.right (parameters_of form.first form.second) ≡ true
 
-rightness : (form : Form) → is_right form ≡ true → Rightness form
+pub rightness : (form : Form) → is_right form ≡ true → Rightness form
 unfolding is_right
 rightness form is =
-    let parts = and_parts (are_names (form.result ∷ parameters_of form.first form.second)) _ is in
-    let names = and_parts (is_name form.result) _ parts.0 in
+    let parts = and_parts (are_different (form.result ∷ parameters_of form.first form.second)) _ is in
+    let names = and_parts (not (is_among form.result (parameters_of form.first form.second))) _ parts.0 in
     let operands = and_parts (is_among form.left (parameters_of form.first form.second)) _ parts.1 in
     record {
-      fresh = (and_parts (not (is_among form.result (parameters_of form.first form.second))) _ names.1).0;
+      fresh = names.0;
+      different = names.1;
       left_known = operands.0;
       right_known = operands.1;
     }
@@ -49,7 +51,7 @@ known name (other ∷ names) is = by_test (bytes_eq name other) refl is (known n
     by_test false e h later = let found = later h in (suc found.0, omega arith, found.2)
 
 -- a name that is not among these is none of them
-fresh_from : (name : Name) (names : List Name) → not (is_among name names) ≡ true → AllByRecursion (λ parameter. parameter.name ≢ name) (map boolean names)
+pub fresh_from : (name : Name) (names : List Name) → not (is_among name names) ≡ true → AllByRecursion (λ parameter. parameter.name ≢ name) (map boolean names)
 fresh_from name [] is = tt
 fresh_from name (other ∷ names) is = by_test (bytes_eq name other) refl is (fresh_from name names)
   where

@@ -4,9 +4,11 @@ pub mod Steps
 pub mod Binds
 pub mod Asking
 pub mod Asked
-pub mod Spelled
-pub mod Recognized
 pub mod Conjunctions
+pub mod TreesMeant
+pub mod FirstTrees
+pub mod Inputs
+pub mod Long
 pub mod Endings
 pub mod Answering
 pub mod Compiles

@@ -1,38 +1,49 @@
--- What the program answers to words and bytes, and what a call did against that.
+-- What the program answers to words and bytes, phase by phase, and what a call did against that.
 use Rattle.std.specs.Prelude.{◌≡◌, ◌⊎◌, ℕ, List, [], codes, Option, IfSome}
 use Rattle.tw_io.specs.Devices.{Appends, AppendsFront}
+use Rattle.tw_text.specs.declared.refusal.Refusal.{Refusal}
+use Rattle.tw_text.specs.Refusals.{refusal_line}
+use Rattle.tw_syntax.specs.Programs.{ProgramTree}
+use Rattle.tw_print.specs.Programs.{program_print}
 use Rattle.tw_gatetext.specs.Text.{file_text}
+use Rattle.tw_state.specs.Programs.{Function}
 use Rattle.tower.specs.declared.status.Status.{Status}
 use Rattle.tower.specs.declared.status.Status.TheVariants as status
 use Rattle.tower.specs.declared.options.Options.{Options}
+use Rattle.tower.specs.declared.options.Command.{Command}
+use Rattle.tower.specs.declared.options.Command.TheVariants as command
 use Rattle.tower.specs.Words.{Asks}
-use Rattle.tower.specs.Form.{Form, Spells, function_of}
+use Rattle.tower.specs.Refused.{IsInput, IsRefusedInput, status_of}
+use Rattle.tower.specs.FirstTree.{IsFirstTree}
 use Rattle.tower.specs.DefinedFile.{file_of}
 
 -- the words ask for nothing that the program does
 abbrev pub IsUsage : List (List ℕ) → Type 0
-IsUsage words = (options : Options) → ¬ Asks words options
+IsUsage words = (asked : Command) → ¬ Asks words asked
 
--- the words ask for a file, and the bytes are no program of the form
-pub record IsNotBuilt (words : List (List ℕ)) (bytes : List ℕ) : Type 0 where
-  pub options : Options
-  pub asked : Asks words options
-  pub no_form : (form : Form) → ¬ Spells bytes form
+-- the program is none that is compiled so far
+abbrev pub IsNoFirstTree : ProgramTree → Type 0
+IsNoFirstTree tree = (function : Function) → ¬ IsFirstTree tree function
 
--- the words ask for the file of the program that the bytes are, and this is its text
-pub record IsBuilt (words : List (List ℕ)) (bytes text : List ℕ) : Type 0 where
-  pub options : Options
-  pub asked : Asks words options
-  pub form : Form
-  pub source : Spells bytes form
-  pub file : text ≡ file_text (file_of options.widths options.inverse (function_of form))
+-- the gate file of a program of the first form, or a refusal of all other programs
+pub data FileAnswer (options : Options) (tree : ProgramTree) (ended : Status) (text : List ℕ) : Type 0 where
+  Built : (function : Function) → IsFirstTree tree function → ended ≡ status.Ok → text ≡ file_text (file_of options.widths options.inverse function) → FileAnswer options tree ended text
+  NotBuilt : IsNoFirstTree tree → ended ≡ status.NotBuilt → text ≡ codes "refused not-built\n" → FileAnswer options tree ended text
 
--- the answer to words and bytes is this status with this text
-abbrev pub Answer : List (List ℕ) → List ℕ → Status → List ℕ → Type 0
-Answer words bytes status.Usage text = IsUsage words × (text ≡ codes "refused usage\n")
-Answer words bytes status.NotBuilt text = IsNotBuilt words bytes × (text ≡ codes "refused not-built\n")
-Answer words bytes status.Ok text = IsBuilt words bytes text
-Answer words bytes other text = ⊥
+-- the answer to a command on a program is this status with this text
+abbrev pub TreeAnswer : Command → ProgramTree → Status → List ℕ → Type 0
+TreeAnswer command.Format tree ended text = (ended ≡ status.Ok) × (text ≡ program_print tree)
+TreeAnswer (command.Compile options) tree ended text = FileAnswer options tree ended text
+
+-- the answer to a command on an input: what is answered on its program, or the line that refuses it
+pub data InputAnswer (asked : Command) (bytes : List ℕ) (ended : Status) (text : List ℕ) : Type 0 where
+  OnTree : (tree : ProgramTree) → IsInput bytes tree → TreeAnswer asked tree ended text → InputAnswer asked bytes ended text
+  Refused : (refusal : Refusal) → IsRefusedInput bytes refusal → ended ≡ status_of refusal.rule → text ≡ refusal_line refusal → InputAnswer asked bytes ended text
+
+-- the answer to words and an input: what is answered to the command that they ask for, or a line where they ask for none
+pub data Answer (words : List (List ℕ)) (bytes : List ℕ) (ended : Status) (text : List ℕ) : Type 0 where
+  ToCommand : (asked : Command) → Asks words asked → InputAnswer asked bytes ended text → Answer words bytes ended text
+  Usage : IsUsage words → ended ≡ status.Usage → text ≡ codes "refused usage\n" → Answer words bytes ended text
 
 -- the text of the answer, whatever its status
 pub record AnswerText (words : List (List ℕ)) (bytes text : List ℕ) : Type 0 where
@@ -57,7 +68,3 @@ pub record Answered (left before now : Option (List ℕ)) (words : List (List �
 abbrev pub IsComplete : Option (List ℕ) → Option (List ℕ) → Option (List ℕ) → List (List ℕ) → Status → Type 0
 IsComplete left before now words ended = IfSome left (λ bytes.
     ((ended ≡ status.Memory) × Appends before now []) ⊎ ((text : List ℕ) × Answer words bytes ended text × Appends before now text))
-
--- the call ended before it could answer: memory was wanting, or a device failed
-abbrev pub IsCutShort : Status → Type 0
-IsCutShort ended = (ended ≡ status.Memory) ⊎ (ended ≡ status.ReadFault) ⊎ (ended ≡ status.WriteFault)

@@ -1,4 +1,4 @@
--- How a call that writes one answer ends.
+-- How a call that writes an answer ends.
 use Rattle.std.specs.Prelude.{◌≡◌, ◌≤◌, ◌⊎◌, ℕ, List, Option, Result, Ok, Err}
 use Rattle.tw_io.specs.Devices.{Rose, Appends, AppendsFront}
 use Rattle.tw_io.specs.declared.outside.WriteFault.{WriteFault}
@@ -20,3 +20,9 @@ pub record Ends {K : Type 0} (taken : K → Option (List ℕ)) (faults : K → �
 abbrev pub finished : Result (Unit {0}) WriteFault → Status → Status
 finished (Ok written) answer = answer
 finished (Err fault) answer = status.WriteFault
+
+-- the call ended with an answer of these, written whole or broken off by a fault of the sink; or memory was wanting and
+-- nothing was written
+pub data Gives {K : Type 0} (taken : K → Option (List ℕ)) (faults : K → ℕ) (old new : K) (ended : Status) (IsAnswer : Status → List ℕ → Type 0) : Type 0 where
+  Answers : (status : Status) (text : List ℕ) → IsAnswer status text → Ends taken faults old new ended status text → Gives taken faults old new ended IsAnswer
+  Unwritten : ended ≡ status.Memory → new ≡ old → Gives taken faults old new ended IsAnswer

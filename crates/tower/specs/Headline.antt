@@ -1,15 +1,18 @@
--- The headline: what a printed gate file promises of the program that it was made from.
+-- The headline: what a printed gate file promises of the program that it was made from; and what a printed program promises.
 use Rattle.std.specs.Prelude.{◌≡◌, ℕ, false, List, [], ◌++◌, Option}
 use Rattle.tw_gate.specs.Gates.{PlainGate, directed}
 use Rattle.tw_gatetext.specs.Text.{File, file_text}
 use Rattle.tw_gatetext.specs.Valid.{IsValid}
 use Rattle.tw_io.specs.Devices.{Appends}
+use Rattle.tw_syntax.specs.Programs.{ProgramTree}
+use Rattle.tw_print.specs.Programs.{program_print}
+use Rattle.tw_print.specs.ReadBack.{ReadsBack}
 use Rattle.tw_state.specs.Programs.{Function}
 use Rattle.tw_frames.specs.Cost.{cost}
 use Rattle.tw_lower.specs.Correct.{Implements}
 use Rattle.tower.specs.declared.options.Options.{Options}
-use Rattle.tower.specs.Words.{Asks}
-use Rattle.tower.specs.Form.{Form, Spells, function_of}
+use Rattle.tower.specs.Refused.{IsInput}
+use Rattle.tower.specs.FirstTree.{IsFirstTree}
 use Rattle.tower.specs.DefinedFile.{file_of}
 
 -- the file can be trusted as the function's
@@ -28,12 +31,19 @@ pub record IsCompiled (options : Options) (function : Function) (file : File) : 
   -- the printed T-count is what the source costs
   pub t_count : file.t_count ≡ cost function.body
 
--- the words ask for a file of the program that the bytes are, and the sink took the text of a file that can be trusted
-pub record Compiled (words : List (List ℕ)) (bytes : List ℕ) (before now : Option (List ℕ)) : Type 0 where
-  pub options : Options
-  pub asked : Asks words options
-  pub form : Form
-  pub source : Spells bytes form
+-- the input is a program of the first form, and the sink took the text of a file that can be trusted as its function's
+pub record Compiled (options : Options) (bytes : List ℕ) (before now : Option (List ℕ)) : Type 0 where
+  pub tree : ProgramTree
+  pub input : IsInput bytes tree
+  pub function : Function
+  pub first : IsFirstTree tree function
   pub file : File
   pub printed : Appends before now (file_text file)
-  pub compiled : IsCompiled options (function_of form) file
+  pub compiled : IsCompiled options function file
+
+-- the input is a program, and the sink took its printed form, which reads back as the same program
+pub record Formatted (bytes : List ℕ) (before now : Option (List ℕ)) : Type 0 where
+  pub tree : ProgramTree
+  pub input : IsInput bytes tree
+  pub printed : Appends before now (program_print tree)
+  pub reads_back : ReadsBack tree

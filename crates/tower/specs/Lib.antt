@@ -1,10 +1,13 @@
 pub mod Words
 pub mod ReadingWords
 pub mod Form
-pub mod ReadingForm
+pub mod FirstTree
+pub mod ReadingTree
 pub mod Seen
 pub mod DefinedFile
 pub mod Number
+pub mod Refused
 pub mod Answer
+pub mod Causes
 pub mod Ending
 pub mod Headline

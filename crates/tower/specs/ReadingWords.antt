@@ -1,8 +1,10 @@
 -- How the words are read, one after the other. What they mean is stated in Words.
-use Rattle.std.specs.Prelude.{ℕ, nat_le, Bool, true, false, not, ◌&&◌, if◌then◌else◌, List, [], ◌∷◌, codes, decimal, Option, Some, None, option_and_then, option_map}
+use Rattle.std.specs.Prelude.{ℕ, ◌≤◌, nat_le, Bool, true, false, not, ◌&&◌, if◌then◌else◌, List, [], ◌∷◌, codes, decimal, Option, Some, None, option_and_then, option_map}
 use Rattle.std.specs.Str.{bytes_eq}
 use Rattle.std.specs.Str.Parse.{digits_value}
 use Rattle.tower.specs.declared.options.Options.{Options}
+use Rattle.tower.specs.declared.options.Command.{Command}
+use Rattle.tower.specs.declared.options.Command.TheVariants as command
 use Rattle.tower.specs.declared.options.Key.{Key}
 use Rattle.tower.specs.declared.options.Key.TheVariants as keys
 use Rattle.tower.specs.declared.options.Given.{Given}
@@ -61,7 +63,22 @@ settings_after given (word ∷ words) = option_and_then (λ more. settings_after
 abbrev pub nothing : Given
 nothing = record { pending = None; word = None; addr = None; entry = false; inverse = false }
 
--- the settings that the words ask for
-abbrev pub read_words : List (List ℕ) → Option Options
+-- the settings for `compile`
+abbrev pub read_compile : List (List ℕ) → Option Command
+read_compile words = option_map command.Compile (settings_after nothing words)
+
+-- nothing stands behind `format`
+abbrev pub read_format : List (List ℕ) → Option Command
+read_format [] = Some command.Format
+read_format (word ∷ words) = None
+
+-- the command that the words ask for
+abbrev pub read_words : List (List ℕ) → Option Command
 read_words [] = None
-read_words (command ∷ words) = if bytes_eq command (codes "compile") then settings_after nothing words else None
+read_words (word ∷ words) =
+    if bytes_eq word (codes "compile") then read_compile words else (if bytes_eq word (codes "format") then read_format words else None)
+
+-- the addresses of a command are of 1 to 8 bits
+abbrev pub IsNarrow : Command → Type 0
+IsNarrow command.Format = Unit {0}
+IsNarrow (command.Compile options) = (1 ≤ options.widths.addr) × (options.widths.addr ≤ 8)

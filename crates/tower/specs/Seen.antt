@@ -1,5 +1,5 @@
 -- The names of a program as bytes, without where they lie in memory.
-use Rattle.std.specs.Prelude.{ℕ, List, Option, option_map}
+use Rattle.std.specs.Prelude.{Option, option_map}
 use denote.Ref.{Bor}
 use Rattle.tw_state.specs.States.{Name}
 use Rattle.tower.specs.Form as plain
@@ -17,14 +17,11 @@ form_seen form = record {
   right = form.right.now;
 }
 
-abbrev pub found_seen : Bor Name × Bor (List ℕ) → Name × List ℕ
-found_seen found = (found.0.now, found.1.now)
+abbrev pub operands_seen : Bor Name × Bor Name → Name × Name
+operands_seen names = (names.0.now, names.1.now)
 
-abbrev pub second_seen : Option (Bor Name) × Bor (List ℕ) → Option Name × List ℕ
-second_seen found = (option_map name_seen found.0, found.1.now)
+abbrev pub assigned_seen : Bor Name × Bor Name × Bor Name → Name × Name × Name
+assigned_seen names = (names.0.now, names.1.now, names.2.now)
 
-abbrev pub head_seen : Bor Name × Option (Bor Name) × Bor (List ℕ) → Name × Option Name × List ℕ
-head_seen found = (found.0.now, option_map name_seen found.1, found.2.now)
-
-abbrev pub statement_seen : Bor Name × Bor Name × Bor Name × Bor (List ℕ) → Name × Name × Name × List ℕ
-statement_seen found = (found.0.now, found.1.now, found.2.now, found.3.now)
+abbrev pub parameters_seen : Bor Name × Option (Bor Name) → Name × Option Name
+parameters_seen names = (names.0.now, option_map name_seen names.1)

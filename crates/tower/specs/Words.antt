@@ -1,7 +1,9 @@
--- Which words ask for what: the command, and its options in any order.
+-- Which words ask for what: a command, and its options in any order.
 use Rattle.std.specs.Prelude.{◌≡◌, ℕ, ◌+◌, ◌≤◌, if◌then◌else◌, List, [], ◌∷◌, codes, decimal}
 use Rattle.std.specs.List.{flat_map}
 use Rattle.tower.specs.declared.options.Options.{Options}
+use Rattle.tower.specs.declared.options.Command.{Command}
+use Rattle.tower.specs.declared.options.Command.TheVariants as command
 
 -- an option, with its value
 pub data Choice : Type 0 where
@@ -43,7 +45,7 @@ inverses (choice ∷ choices) = inverses choices
 
 -- The words are `compile` and options in any order. Each is given once, `--inverse` where the inverse file is wanted, and
 -- the widths are in range.
-pub record Asks (words : List (List ℕ)) (options : Options) : Type 0 where
+pub record AsksFile (words : List (List ℕ)) (options : Options) : Type 0 where
   pub choices : List Choice
   pub spelled : words ≡ codes "compile" ∷ flat_map choice_words choices
   pub one_word : word_widths choices ≡ options.widths.word ∷ []
@@ -52,3 +54,8 @@ pub record Asks (words : List (List ℕ)) (options : Options) : Type 0 where
   pub inverse_if_wanted : inverses choices ≡ (if options.inverse then 1 else 0)
   pub word_in_range : (1 ≤ options.widths.word) × (options.widths.word ≤ 32)
   pub addr_in_range : (1 ≤ options.widths.addr) × (options.widths.addr ≤ 8)
+
+-- the words ask for this command; `format` has no options
+abbrev pub Asks : List (List ℕ) → Command → Type 0
+Asks words command.Format = words ≡ codes "format" ∷ []
+Asks words (command.Compile options) = AsksFile words options

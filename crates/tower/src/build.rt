@@ -1,17 +1,19 @@
+//! The gate file of a program of the first form.
 ghost use Rattle.std.specs.Prelude.{◌≡◌, ◌≤◌, ◌+◌, true};
 ghost use Rattle.tw_gatetext.specs.Text.{file_text};
 ghost use Rattle.tower.specs.Form.{is_right, function_of};
 ghost use Rattle.tower.specs.Seen.{form_seen};
 ghost use Rattle.tower.specs.DefinedFile.{file_of};
-ghost use Rattle.tower.specs.Ending.{Ends, finished};
+ghost use Rattle.tower.specs.Ending.{Ends};
 
+use crate::ending::finish;
 use crate::form::Form;
 use crate::options::Options;
 use crate::status::Status;
 use crate::wires::wires_for;
 use tw_gate::{Gate, Level};
 use tw_gatetext::write_file;
-use tw_io::{Sink, WriteFault, write_all};
+use tw_io::Sink;
 
 /// The T-count of one Toffoli.
 const T_COUNT: u64 = 7;
@@ -52,21 +54,4 @@ pub fn build<K: Sink>(options: Options, form: &Form, output: &mut K) -> Status
         ),
         Status::Ok,
     )
-}
-
-/// Writes a line that refuses, for this status.
-pub fn refuse<K: Sink>(output: &mut K, status: Status, line: &[u8]) -> Status
-    ensures { Ends K.taken K.faults output.old output.new result status line.now }
-{
-    finish(write_all(output, line), status)
-}
-
-/// The status where the answer was written, else that of a fault of the sink.
-fn finish(written: Result<(), WriteFault>, status: Status) -> Status
-    ensures { result ≡ finished written status }
-{
-    match written {
-        Ok(()) => status,
-        Err(WriteFault) => Status::WriteFault,
-    }
 }

@@ -1,7 +1,11 @@
-ghost use Rattle.std.specs.Prelude.{◌≡◌, ◌≢◌, ◌≤◌, ◌⊎◌, ℕ, List, IfSome};
+ghost use Rattle.std.specs.Prelude.{◌≡◌, ◌≤◌, ◌⊎◌, ℕ, List, IfSome};
 ghost use Rattle.tw_io.specs.Devices.{Rose, IsAtEnd};
-ghost use Rattle.tower.specs.Answer.{IsUsage, IsNotBuilt, IsBuilt, Answer, Answered, IsComplete, IsCutShort};
-ghost use Rattle.tower.specs.Headline.{Compiled};
+ghost use Rattle.tower.specs.Words.{Asks};
+ghost use Rattle.tower.specs.Answer.{IsUsage, Answer, Answered, IsComplete};
+ghost use Rattle.tower.specs.Causes.{IsRefusedWith, IsNotBuilt, IsFine, EndsWhere};
+ghost use Rattle.tower.specs.Headline.{Compiled, Formatted};
+ghost use Rattle.tower.specs.declared.options.Command.TheVariants as command;
+ghost use Rattle.tower.specs.declared.options.Options.{Options};
 ghost use Rattle.tower.specs.declared.status.Status.{Status};
 
 use crate::run::run;
@@ -12,9 +16,14 @@ use tw_io::{Sink, Source};
 
 /// Does what the words ask for: reads the input, writes the answer to the output, and says how it ended.
 ///
+/// `format` reads a program and writes it in its one form.
+///
 /// `compile --word W --addr A --entry main`, with `--inverse` where wanted and the options in any order, reads a program
 /// and writes the gate file of it, or the inverse file. `W`, from 1 to 32, is the width of a word, which no program uses
-/// yet; `A`, from 1 to 8, is that of an address.
+/// yet; `A`, from 1 to 8, is that of an address. Programs of one form are compiled so far, and all others are refused as
+/// not built.
+///
+/// A source that is not a program is refused with a line that says why, and where.
 pub fn tower_main<S: Source, K: Sink>(
     alloc: Global,
     words: &Words,
@@ -28,20 +37,28 @@ pub fn tower_main<S: Source, K: Sink>(
     ensures complete { ¬ Rose (S.faults input.old) (S.faults input.new) → ¬ Rose (K.faults output.old) (K.faults output.new)
         → IsComplete (S.left input.old) (K.taken output.old) (K.taken output.new) words.now result }
 
-    // What a file that was printed promises.
-    ensures headline { result ≡ Status.Ok
-        → IfSome (S.left input.old) (λ bytes. Compiled words.now bytes (K.taken output.old) (K.taken output.new)) }
+    // What a file that was printed promises, and what a program that was printed promises.
+    ensures headline { (options : Options) → Asks words.now (command.Compile options) → result ≡ Status.Ok
+        → IfSome (S.left input.old) (λ bytes. Compiled options bytes (K.taken output.old) (K.taken output.new)) }
+    ensures formatted { Asks words.now command.Format → result ≡ Status.Ok
+        → IfSome (S.left input.old) (λ bytes. Formatted bytes (K.taken output.old) (K.taken output.new)) }
 
     // When each status comes.
     ensures ok_only { result ≡ Status.Ok → IsAtEnd (S.left input.new) }
+    ensures ok { EndsWhere (S.left input.old) (IsFine words.now) Status.Ok result }
     ensures usage_only { result ≡ Status.Usage → IsUsage words.now }
     ensures usage { IsUsage words.now → (result ≡ Status.Usage) ⊎ (result ≡ Status.WriteFault) }
     ensures unread { IsUsage words.now → input.new ≡ input.old }
+    ensures utf8_only { result ≡ Status.Utf8 → IfSome (S.left input.old) (IsRefusedWith Status.Utf8 words.now) }
+    ensures utf8 { EndsWhere (S.left input.old) (IsRefusedWith Status.Utf8 words.now) Status.Utf8 result }
+    ensures token_only { result ≡ Status.Token → IfSome (S.left input.old) (IsRefusedWith Status.Token words.now) }
+    ensures token { EndsWhere (S.left input.old) (IsRefusedWith Status.Token words.now) Status.Token result }
+    ensures syntax_only { result ≡ Status.Syntax → IfSome (S.left input.old) (IsRefusedWith Status.Syntax words.now) }
+    ensures syntax { EndsWhere (S.left input.old) (IsRefusedWith Status.Syntax words.now) Status.Syntax result }
+    ensures limit_only { result ≡ Status.Limit → IfSome (S.left input.old) (IsRefusedWith Status.Limit words.now) }
+    ensures limit { EndsWhere (S.left input.old) (IsRefusedWith Status.Limit words.now) Status.Limit result }
     ensures not_built_only { result ≡ Status.NotBuilt → IfSome (S.left input.old) (IsNotBuilt words.now) }
-    ensures not_built { IfSome (S.left input.old) (λ bytes.
-        IsNotBuilt words.now bytes → (result ≡ Status.NotBuilt) ⊎ IsCutShort result) }
-    ensures ok { IfSome (S.left input.old) (λ bytes. (text : List ℕ)
-        → IsBuilt words.now bytes text → (result ≡ Status.Ok) ⊎ IsCutShort result) }
+    ensures not_built { EndsWhere (S.left input.old) (IsNotBuilt words.now) Status.NotBuilt result }
     ensures read_fault { result ≡ Status.ReadFault → Rose (S.faults input.old) (S.faults input.new) }
     ensures write_fault { result ≡ Status.WriteFault → Rose (K.faults output.old) (K.faults output.new) }
     ensures source_steady { S.faults input.old ≤ S.faults input.new }

@@ -1,38 +1,45 @@
-ghost use Rattle.std.specs.Prelude.{◌≡◌, ◌≤◌, ◌∷◌, length, option_map, if◌then◌else◌};
+//! The one form of programs that is compiled so far, found in a syntax tree.
+ghost use Rattle.std.specs.Prelude.{◌≡◌, ◌≤◌, ◌∷◌, length, map, option_map, if◌then◌else◌};
 ghost use Rattle.std.specs.Str.{bytes_eq};
-ghost use Rattle.std.specs.List.{list_all, prefix_len};
-ghost use Rattle.tower.specs.Form.{is_small_letter, has_name_length, is_name, are_names, is_among, parameters_of, reserved_words, is_right};
-ghost use Rattle.tower.specs.ReadingForm.{name_behind, second_at, head_at, statement_at, return_at, checked, form_at};
-ghost use Rattle.tower.specs.Seen.{form_seen, name_seen, found_seen, second_seen, head_seen, statement_seen};
+ghost use Rattle.tw_syntax.specs.Types.{written_tree};
+ghost use Rattle.tw_syntax.specs.Terms.{atom_tree, expr_tree};
+ghost use Rattle.tw_syntax.specs.Statements.{stmt_tree, stmts_tree};
+ghost use Rattle.tw_syntax.specs.Programs.{param_tree, fun_tree, decl_tree, program_tree};
+ghost use Rattle.tower.specs.Form.{are_different, is_among, parameters_of, is_right};
+ghost use Rattle.tower.specs.ReadingTree.{is_bool, name_in, operands_in, assigned_in, body_in, parameters_in, is_main, checked, form_in_main, form_in_fun, form_in_decl, form_in};
+ghost use Rattle.tower.specs.Seen.{form_seen, name_seen, operands_seen, assigned_seen, parameters_seen};
 
-use tw_text::after;
+use tw_syntax::{
+    Atom, AtomKind, Decl, Expr, ExprKind, Fun, OpKind, Param, Program, Rhs, Stmt, StmtKind,
+    Written, WrittenKind,
+};
 
-/// A program that gives the `&&` of two of its parameters, by the names in its text.
+/// A program that gives the `&&` of two of its one or two parameters, by the names in it.
 #[derive(Clone, Copy)]
-pub struct Form<'t> {
-    pub first: &'t [u8],
-    pub second: Option<&'t [u8]>,
-    pub result: &'t [u8],
-    pub left: &'t [u8],
-    pub right: &'t [u8],
+pub struct Form<'a> {
+    pub first: &'a str,
+    pub second: Option<&'a str>,
+    pub result: &'a str,
+    pub left: &'a str,
+    pub right: &'a str,
 }
 
-impl<'t> Form<'t> {
-    /// Whether the names are names, the parameters and the result differ, and each operand is a parameter.
+impl<'a> Form<'a> {
+    /// Whether the parameters and the result differ, and each operand is a parameter.
     #[tactic(auto, unfolding(crate::specs::Form::is_right))]
     fn is_right(&self) -> bool
         ensures { result ≡ is_right (form_seen self.now) }
     {
-        self.are_names() && self.has_parameter(self.left) && self.has_parameter(self.right)
+        self.are_different() && self.has_parameter(self.left) && self.has_parameter(self.right)
     }
 
-    fn are_names(&self) -> bool
-        ensures { result ≡ are_names (self.now.result.now ∷ parameters_of self.now.first.now (option_map name_seen self.now.second)) }
+    fn are_different(&self) -> bool
+        ensures { result ≡ are_different (self.now.result.now ∷ parameters_of self.now.first.now (option_map name_seen self.now.second)) }
     {
-        let names = is_name(self.result) && !self.has_parameter(self.result) && is_name(self.first);
+        let fresh = !self.has_parameter(self.result);
         match self.second {
-            None => names,
-            Some(second) => names && second != self.first && is_name(second),
+            None => fresh,
+            Some(second) => fresh && self.first != second,
         }
     }
 
@@ -48,14 +55,14 @@ impl<'t> Form<'t> {
     }
 
     /// The place of a parameter among the parameters, counted from 0.
-    pub fn place(&self, parameter: &[u8]) -> u32
+    pub fn place(&self, parameter: &str) -> u32
         ensures place { result ≡ (if bytes_eq self.now.first.now parameter.now then 0 else 1) }
         ensures few { result ≤ 1 }
     {
         if self.first == parameter { 0 } else { 1 }
     }
 
-    fn has_parameter(&self, name: &[u8]) -> bool
+    fn has_parameter(&self, name: &str) -> bool
         ensures { result ≡ is_among name.now (parameters_of self.now.first.now (option_map name_seen self.now.second)) }
     {
         match self.second {
@@ -65,122 +72,101 @@ impl<'t> Form<'t> {
     }
 }
 
-/// Whether these are 1 to 16 small letters that are no word of the language.
-#[tactic(auto, unfolding(crate::specs::Form::is_name))]
-fn is_name(name: &[u8]) -> bool
-    ensures { result ≡ is_name name.now }
+fn is_bool(written: &Written) -> bool
+    ensures { result ≡ is_bool (written_tree written.now) }
 {
-    has_name_length(name) && are_letters(name) && !is_reserved(name)
+    matches!(written.kind, WrittenKind::Bool)
 }
 
-fn has_name_length(name: &[u8]) -> bool
-    ensures { result ≡ has_name_length name.now }
+/// The name that an operand is, without steps.
+fn name_of<'a>(atom: &Atom<'a>) -> Option<&'a str>
+    ensures { option_map name_seen result ≡ name_in (atom_tree atom.now) }
 {
-    1 <= name.len() && name.len() <= 16
-}
-
-fn are_letters(name: &[u8]) -> bool
-    ensures { result ≡ list_all is_small_letter name.now }
-{
-    name.iter().all(|letter| letter.is_ascii_lowercase())
-}
-
-/// Whether this is a word of the language.
-fn is_reserved(name: &[u8]) -> bool
-    ensures { result ≡ is_among name.now reserved_words }
-{
-    name == b"type".as_slice()
-        || name == b"fun".as_slice()
-        || name == b"return".as_slice()
-        || name == b"let".as_slice()
-        || name == b"if".as_slice()
-        || name == b"else".as_slice()
-        || name == b"with".as_slice()
-        || name == b"do".as_slice()
-        || name == b"skip".as_slice()
-        || name == b"uint".as_slice()
-        || name == b"bool".as_slice()
-        || name == b"ptr".as_slice()
-        || name == b"true".as_slice()
-        || name == b"false".as_slice()
-        || name == b"null".as_slice()
-        || name == b"default".as_slice()
-        || name == b"alloc".as_slice()
-        || name == b"not".as_slice()
-}
-
-/// The letters behind a text, and what stands behind them.
-#[tactic(auto, unfolding(crate::specs::ReadingForm::name_behind))]
-fn name_behind<'t>(text: &[u8], bytes: &'t [u8]) -> Option<(&'t [u8], &'t [u8])>
-    ensures { option_map found_seen result ≡ name_behind text.now bytes.now }
-{
-    let rest = after(bytes, text)?;
-    Some(rest.split_at(letter_count(rest)))
-}
-
-/// How many small letters stand at the front.
-fn letter_count(bytes: &[u8]) -> usize
-    ensures count { result ≡ prefix_len is_small_letter bytes.now }
-    ensures within { result ≤ length bytes.now }
-{
-    bytes
-        .iter()
-        .take_while(|byte| byte.is_ascii_lowercase())
-        .count()
-}
-
-#[tactic(auto, unfolding(crate::specs::ReadingForm::second_at))]
-fn second_at<'t>(bytes: &'t [u8]) -> Option<(Option<&'t [u8]>, &'t [u8])>
-    ensures { option_map second_seen result ≡ second_at bytes.now }
-{
-    match name_behind(b", ", bytes) {
-        None => Some((None, bytes)),
-        Some((name, rest)) => {
-            let rest = after(rest, b": bool")?;
-            Some((Some(name), rest))
-        }
+    match &atom.kind {
+        AtomKind::Place(path) if path.steps.is_empty() => Some(path.root.text),
+        _ => None,
     }
 }
 
-#[tactic(auto, unfolding(crate::specs::ReadingForm::head_at))]
-fn head_at<'t>(bytes: &'t [u8]) -> Option<(&'t [u8], Option<&'t [u8]>, &'t [u8])>
-    ensures { option_map head_seen result ≡ head_at bytes.now }
+/// The operands of `&&`.
+fn operands_of<'a>(expr: &Expr<'a>) -> Option<(&'a str, &'a str)>
+    ensures { option_map operands_seen result ≡ operands_in (expr_tree expr.now) }
 {
-    let (first, rest) = name_behind(b"fun main(", bytes)?;
-    let rest = after(rest, b": bool")?;
-    let (second, rest) = second_at(rest)?;
-    let rest = after(rest, b") -> bool { ")?;
-    Some((first, second, rest))
+    match &expr.kind {
+        ExprKind::Op(OpKind::And, left, right) => {
+            let left = name_of(left)?;
+            let right = name_of(right)?;
+            Some((left, right))
+        }
+        _ => None,
+    }
 }
 
-#[tactic(auto, unfolding(crate::specs::ReadingForm::statement_at))]
-fn statement_at<'t>(bytes: &'t [u8]) -> Option<(&'t [u8], &'t [u8], &'t [u8], &'t [u8])>
-    ensures { option_map statement_seen result ≡ statement_at bytes.now }
+/// The target and the operands of a forward `let` of `&&`.
+fn assigned<'a>(stmt: &Stmt<'a>) -> Option<(&'a str, &'a str, &'a str)>
+    ensures { option_map assigned_seen result ≡ assigned_in (stmt_tree stmt.now) }
 {
-    let (result, rest) = name_behind(b"let ", bytes)?;
-    let (left, rest) = name_behind(b" <- ", rest)?;
-    let (right, rest) = name_behind(b" && ", rest)?;
-    let rest = after(rest, b"; ")?;
-    Some((result, left, right, rest))
+    match &stmt.kind {
+        StmtKind::Let {
+            forward: true,
+            target,
+            rhs: Rhs::Expr(expr),
+        } => {
+            let (left, right) = operands_of(expr)?;
+            Some((target.text, left, right))
+        }
+        _ => None,
+    }
 }
 
-#[tactic(auto, unfolding(crate::specs::ReadingForm::return_at))]
-fn return_at<'t>(bytes: &'t [u8]) -> Option<(&'t [u8], &'t [u8])>
-    ensures { option_map found_seen result ≡ return_at bytes.now }
+/// Those of a body that is one such statement.
+fn assigned_by<'a>(body: &[Stmt<'a>]) -> Option<(&'a str, &'a str, &'a str)>
+    ensures { option_map assigned_seen result ≡ body_in (stmts_tree body.now) }
 {
-    let (returned, rest) = name_behind(b"return ", bytes)?;
-    let rest = after(rest, b"; }")?;
-    Some((returned, rest))
+    match body {
+        [] => None,
+        [stmt] => assigned(stmt),
+        [_, _, ..] => None,
+    }
 }
 
-/// The program whose text the bytes are, with at most a newline behind it.
-#[tactic(auto, unfolding(crate::specs::ReadingForm::form_at))]
-pub fn form_at<'t>(bytes: &'t [u8]) -> Option<Form<'t>>
-    ensures { option_map form_seen result ≡ form_at bytes.now }
+/// One or two parameters of type `bool`.
+fn parameters_of<'a>(params: &[Param<'a>]) -> Option<(&'a str, Option<&'a str>)>
+    ensures { option_map parameters_seen result ≡ parameters_in (map param_tree params.now) }
 {
-    let (first, second, rest) = head_at(bytes)?;
-    let (result, left, right, rest) = statement_at(rest)?;
-    let (returned, rest) = return_at(rest)?;
+    match params {
+        [first] if is_bool(first.ty) => Some((first.name.text, None)),
+        [first, second] if is_bool(first.ty) && is_bool(second.ty) => {
+            Some((first.name.text, Some(second.name.text)))
+        }
+        _ => None,
+    }
+}
+
+/// Whether the function is `main`, without a bound, and gives a `bool`.
+fn is_main(fun: &Fun) -> bool
+    ensures { result ≡ is_main (fun_tree fun.now) }
+{
+    fun.name.text == "main" && fun.bound.is_none() && is_bool(fun.result)
+}
+
+/// The form, if the result is what is returned and all its names are right.
+fn checked<'a>(form: Form<'a>, returned: &str) -> Option<Form<'a>>
+    ensures { option_map form_seen result ≡ checked (form_seen form.entry) returned.now }
+{
+    if returned == form.result && form.is_right() {
+        Some(form)
+    } else {
+        None
+    }
+}
+
+#[tactic(auto, unfolding(crate::specs::ReadingTree::form_in_main))]
+fn form_of_main<'a>(fun: &Fun<'a>) -> Option<Form<'a>>
+    ensures { option_map form_seen result ≡ form_in_main (fun_tree fun.now) }
+{
+    let (first, second) = parameters_of(fun.params)?;
+    let (result, left, right) = assigned_by(fun.body)?;
     let form = Form {
         first,
         second,
@@ -188,17 +174,35 @@ pub fn form_at<'t>(bytes: &'t [u8]) -> Option<Form<'t>>
         left,
         right,
     };
-    checked(form, returned, rest)
+    checked(form, fun.returned.text)
 }
 
-#[tactic(auto, unfolding(crate::specs::ReadingForm::checked))]
-fn checked<'t>(form: Form<'t>, returned: &[u8], rest: &[u8]) -> Option<Form<'t>>
-    ensures { option_map form_seen result ≡ checked (form_seen form.entry) returned.now rest.now }
+fn form_of_fun<'a>(fun: &Fun<'a>) -> Option<Form<'a>>
+    ensures { option_map form_seen result ≡ form_in_fun (fun_tree fun.now) }
 {
-    let ended = returned == form.result && (rest.is_empty() || rest == b"\n".as_slice());
-    if ended && form.is_right() {
-        Some(form)
+    if is_main(fun) {
+        form_of_main(fun)
     } else {
         None
+    }
+}
+
+fn form_of_decl<'a>(decl: &Decl<'a>) -> Option<Form<'a>>
+    ensures { option_map form_seen result ≡ form_in_decl (decl_tree decl.now) }
+{
+    match decl {
+        Decl::Fun(fun) => form_of_fun(fun),
+        Decl::Alias(_) => None,
+    }
+}
+
+/// The form of a program of one function.
+pub fn form_of<'a>(program: &Program<'a>) -> Option<Form<'a>>
+    ensures { option_map form_seen result ≡ form_in (map decl_tree program.now.decls.now) }
+{
+    match program.decls {
+        [] => None,
+        [decl] => form_of_decl(decl),
+        [_, _, ..] => None,
     }
 }

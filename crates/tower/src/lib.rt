@@ -3,6 +3,8 @@
 
 mod build;
 mod call;
+mod commands;
+mod ending;
 mod form;
 mod options;
 mod run;

@@ -1,5 +1,6 @@
-ghost use Rattle.std.specs.Prelude.{◌≡◌};
-ghost use Rattle.tower.specs.ReadingWords.{number_in, after_key, after_value, after_word, settings_of, read_words};
+//! The words of a call, read one after the other.
+ghost use Rattle.std.specs.Prelude.{◌≡◌, drop};
+ghost use Rattle.tower.specs.ReadingWords.{number_in, after_key, after_value, after_word, settings_of, nothing, settings_after, read_words};
 
 use crate::words::Words;
 use tw_types::Widths;
@@ -11,6 +12,15 @@ pub struct Options {
     pub widths: Widths,
     /// Whether the inverse file is wanted.
     pub inverse: bool,
+}
+
+/// What a call is asked for.
+#[derive(Debug, Clone, Copy, PartialEq, Eq)]
+pub enum Command {
+    /// The printed form of a program.
+    Format,
+    /// The gate file of a program, or the inverse file.
+    Compile(Options),
 }
 
 /// An option whose value is the next word.
@@ -131,16 +141,30 @@ fn number_in(limit: u32, word: &str) -> Option<u32>
     }
 }
 
-/// What the words ask for, if they are `compile` and its options.
-pub fn options_of(words: &Words) -> Option<Options>
-    ensures { result ≡ read_words words.now }
+/// The options behind `compile`.
+fn options_of(words: &Words) -> Option<Options>
+    ensures { result ≡ settings_after nothing (drop 1 words.now) }
 {
-    if words.is_empty() || words.word(0) != "compile" {
-        return None;
-    }
     let mut given = NOTHING;
     for place in 1..words.len() {
         given = given.after_word(words.word(place))?;
     }
     given.settings()
+}
+
+/// What the words ask for, if they are a command and its options.
+pub fn command_of(words: &Words) -> Option<Command>
+    ensures { result ≡ read_words words.now }
+{
+    if words.is_empty() {
+        return None;
+    }
+    match words.word(0) {
+        "compile" => {
+            let options = options_of(words)?;
+            Some(Command::Compile(options))
+        }
+        "format" if words.len() == 1 => Some(Command::Format),
+        _ => None,
+    }
 }

@@ -20,6 +20,11 @@ pub record SinkView : Type 0 where
   pub calls : ℕ
   pub faults : ℕ
 
+-- a sink in memory that grows: the bytes that it took, and the faults so far
+pub record VecView : Type 0 where
+  pub taken : List ℕ
+  pub faults : ℕ
+
 -- whether the call of this number is among those that fail
 abbrev pub is_listed : List ℕ → ℕ → Bool
 is_listed failing call = list_any (λ number. number == call) failing

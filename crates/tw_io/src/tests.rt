@@ -67,3 +67,13 @@ fn uses_the_standard_streams(rt: HostRuntime) {
     let mut output = HostSink::new(rt.stdout());
     assert!(rt; write_all(&mut output, b"").is_ok());
 }
+
+#[test]
+fn a_growing_sink_takes_all(rt: HostRuntime) {
+    let mut sink = VecSink::new(rt.alloc());
+    for piece in ["tower", "", "-gates 1\n"] {
+        assert!(rt; write_all(&mut sink, piece.as_bytes()).is_ok());
+    }
+    assert!(rt; write_decimal(&mut sink, 7).is_ok());
+    assert_eq!(rt; sink.taken(), b"tower-gates 1\n7".as_slice());
+}

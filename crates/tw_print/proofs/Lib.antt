@@ -1,2 +1,10 @@
 pub mod Going
 pub mod Items
+pub mod Spelling
+pub mod SpeltPieces
+pub mod SpeltMarks
+pub mod SpeltTerms
+pub mod SpeltStatements
+pub mod SpeltPrograms
+pub mod GoodWords
+pub mod ReadBack

@@ -1,3 +1,4 @@
 pub mod Terms
 pub mod Programs
 pub mod Progress
+pub mod ReadBack

@@ -1,12 +1,14 @@
 //! Printing functions and programs.
 
-ghost use Rattle.std.specs.Prelude.{◌≡◌, map};
+ghost use Rattle.std.specs.Prelude.{◌≡◌, ℕ, List, map};
 ghost use Rattle.std.specs.Option.{option_map};
 ghost use Rattle.tw_io.specs.Devices.{Wrote};
 ghost use Rattle.tw_syntax.specs.Names.{name_tree};
 ghost use Rattle.tw_syntax.specs.Programs.{param_tree, fun_tree, alias_tree, decl_tree, program_tree};
+ghost use Rattle.tw_parse.specs.Sources.{IsSource};
 ghost use Rattle.tw_print.specs.Progress.{Goes};
 ghost use Rattle.tw_print.specs.Programs.{param_print, more_params_print, params_print, fun_bound_print, head_print, return_print, alias_print, fun_print, decl_print, decls_print, program_print};
+ghost use Rattle.tw_print.specs.ReadBack.{ReadsBack};
 
 use crate::progress::{Progress, text};
 use crate::statements::{print_line, print_stmts};
@@ -117,8 +119,10 @@ fn print_decls<K: Sink>(sink: &mut K, progress: Progress, decls: &[Decl]) -> Pro
 }
 
 /// Prints a program. It takes no memory. A fault: the sink took a front of the text.
+/// What is printed of a source's program reads back as that program, at other places.
 pub fn print_program<K: Sink>(program: &Program, sink: &mut K) -> Result<(), WriteFault>
     ensures wrote { Wrote K.taken K.faults sink.old sink.new result (program_print (program_tree program.now)) }
+    ensures read_back { (source : List ℕ) → IsSource source (program_tree program.now) → ReadsBack (program_tree program.now) }
 {
     match print_decls(sink, Progress::Going, program.decls) {
         Progress::Going => Ok(()),

@@ -5,3 +5,4 @@ pub mod Typing
 pub mod Renaming
 pub mod Encoding
 pub mod Examples
+pub mod FromTrees

@@ -2,3 +2,4 @@ pub mod Cuts
 pub mod Digits
 pub mod Front
 pub mod Places
+pub mod Refusals

@@ -1,6 +1,6 @@
 //! Texts: decimal numbers, what stands behind a given front, texts cut in two, places by line and column, why a source is
-//! refused, and the type of arenas. The definitions of `specs/` say what fronts, runs of digits, cuts and places are, and
-//! `proofs/` has their laws.
+//! refused and the line that tells it, and the type of arenas. The definitions of `specs/` say what fronts, runs of digits,
+//! cuts, places and the lines of refusals are, and `proofs/` has their laws.
 #![tactic(auto)]
 
 mod cut;
@@ -8,6 +8,7 @@ mod decimal;
 mod front;
 mod place;
 mod refusal;
+mod refusal_line;
 #[cfg(test)]
 mod tests;
 mod whole;
@@ -17,4 +18,5 @@ pub use decimal::read_decimal;
 pub use front::after;
 pub use place::{Pos, place_after};
 pub use refusal::{Arena, Counted, Fault, Refusal, Rule};
+pub use refusal_line::RefusalLine;
 pub use whole::whole_decimal;

@@ -1,4 +1,4 @@
-use crate::{Pos, after, place_after, read_decimal};
+use crate::{Counted, Pos, Refusal, Rule, after, place_after, read_decimal};
 
 #[test]
 fn reads_decimals(rt: HostRuntime) {
@@ -37,5 +37,38 @@ fn places_count_lines_and_characters(rt: HostRuntime) {
     let table = [("", 1, 1), ("ab\nc", 2, 2), ("λx", 1, 3)];
     for (text, line, col) in table {
         assert_eq!(rt; place_after(text), Pos { line, col });
+    }
+}
+
+#[test]
+fn refusals_have_lines(rt: HostRuntime) {
+    let limit = 134_217_728;
+    let table = [
+        (Rule::Syntax, 1, 9, 0, 0, "refused syntax at 1:9\n"),
+        (
+            Rule::LiteralTooWide,
+            1,
+            31,
+            256,
+            255,
+            "refused literal-too-wide at 1:31\n",
+        ),
+        (
+            Rule::Limit(Counted::Input),
+            1,
+            1,
+            limit + 1,
+            limit,
+            "refused limit input found 134217729 limit 134217728\n",
+        ),
+    ];
+    for (rule, line, col, found, limit, text) in table {
+        let refusal = Refusal {
+            rule,
+            at: Pos { line, col },
+            found,
+            limit,
+        };
+        assert_eq!(rt; refusal.line().as_str(), text);
     }
 }

@@ -1,0 +1,33 @@
+#!/usr/bin/env bash
+# How long `format` takes on programs of 0.1, 1 and 10 megabytes, as a ratio to `wc` of the same file, and how it grows from
+# one to the next. Usage: bench/format.sh   (the best of five runs each)
+set -eu
+here=$(cd "$(dirname "${BASH_SOURCE[0]}")/.." && pwd)
+folder=$(mktemp -d)
+trap 'rm -rf "$folder"' EXIT
+"$here/yathrefon" format < /dev/null > /dev/null || true   # builds the program
+
+python3 - "$folder" "$here/crates/yathrefon/out/yathrefon" "$here/examples/length.printed" <<'END'
+import pathlib, subprocess, sys, time
+
+folder, program, example = pathlib.Path(sys.argv[1]), sys.argv[2], pathlib.Path(sys.argv[3]).read_text()
+head, function = example.split("\n", 1)
+
+def best(command, path):
+    times = []
+    for _ in range(5):
+        with open(path, "rb") as source:
+            start = time.perf_counter()
+            subprocess.run(command, stdin=source, stdout=subprocess.DEVNULL)
+            times.append(time.perf_counter() - start)
+    return min(times)
+
+before = None
+for size in (100_000, 1_000_000, 10_000_000):
+    path = folder / str(size)
+    path.write_text(head + "\n" + function * (size // len(function)))
+    taken = best([program, "format"], path)
+    growth = "" if before is None else f", {taken / before:.1f} times the one before"
+    print(f"{size // 1000} KB: yathrefon / wc: {taken / best(['wc'], path):.1f}{growth}")
+    before = taken
+END

@@ -1,0 +1,10 @@
+use Rattle.std.proofs.Common.{◌∙◌, ap, ◌++◌}
+use Rattle.tw_print.specs.Programs.{program_print}
+use Rattle.tw_syntax.specs.Programs.{program_tree}
+use Rattle.tower.proofs.Endings.{gives_printed}
+use Rattle.tower.proofs.commands.format.Goals as goal
+
+pub returns-in-Ok : goal.returns-in-Ok
+returns-in-Ok g c =
+    let tree = program_tree c.args.program.now in
+    gives_printed tree (c.taken.ensures ∙ (c.in-Ok.ensures.wrote.whole ∙ ap (λ view. view.taken ++ program_print tree) c.new-printed.ensures)) c.finish.ensures c.write_all.ensures.wrote

@@ -1,0 +1,94 @@
+-- The function that a syntax tree stands for; none where the tree holds a form that has no meaning here yet.
+use Rattle.std.specs.Prelude.{◌≡◌, ℕ, true, List, [], ◌∷◌, Option, Some, None, option_map, codes, refl}
+use Rattle.tw_text.specs.declared.place.Pos.{Pos}
+use Rattle.tw_syntax.specs.declared.term.OpKind.{OpKind}
+use Rattle.tw_syntax.specs.declared.term.OpKind.TheVariants as op
+use Rattle.tw_syntax.specs.Names.{NameTree}
+use Rattle.tw_syntax.specs.Types.{WrittenTree, BoolType}
+use Rattle.tw_syntax.specs.Terms.{AtomTree, PlaceAtom, ExprTree, OpExpr, RhsTree, ExprRhs}
+use Rattle.tw_syntax.specs.Statements as tree
+use Rattle.tw_syntax.specs.Statements.{StmtTree}
+use Rattle.tw_syntax.specs.Programs.{ParamTree, FunTree}
+use Rattle.tw_types.specs.Types.{Ty, Boolean}
+use Rattle.tw_state.specs.States.{Name}
+use Rattle.tw_state.specs.Programs.{Atom, Var, Operator, And, Expr, Binary, Stmt, Skip, Then, Let, Variable, Function}
+use Rattle.tw_state.specs.Examples.{main}
+
+-- what a written type stands for
+abbrev pub type_meant : WrittenTree → Option Ty
+type_meant (BoolType at) = Some Boolean
+type_meant other = None
+
+-- a name with these steps, as an operand
+abbrev pub variable_at : Name → List ℕ → Option Atom
+variable_at name [] = Some (Var name)
+variable_at name (step ∷ steps) = None
+
+abbrev pub atom_meant : AtomTree → Option Atom
+atom_meant (PlaceAtom at path) = variable_at path.root.text path.steps
+atom_meant other = None
+
+abbrev pub operator_meant : OpKind → Option Operator
+operator_meant op.And = Some And
+operator_meant other = None
+
+-- an operator on two operands, where all three mean something
+abbrev pub binary_of : Option Operator → Option Atom → Option Atom → Option Expr
+binary_of (Some operator) (Some left) (Some right) = Some (Binary operator left right)
+binary_of operator left right = None
+
+abbrev pub expr_meant : ExprTree → Option Expr
+expr_meant (OpExpr at operator left right) = binary_of (operator_meant operator) (atom_meant left) (atom_meant right)
+expr_meant other = None
+
+abbrev pub rhs_meant : RhsTree → Option Expr
+rhs_meant (ExprRhs expr) = expr_meant expr
+rhs_meant other = None
+
+-- a statement and those behind it, where both mean something
+abbrev pub then_of : Option Stmt → Option Stmt → Option Stmt
+then_of (Some first) (Some rest) = Some (Then first rest)
+then_of first rest = None
+
+-- what statements stand for: assignments of expressions, one after the other
+abbrev pub stmt_meant : StmtTree → Option Stmt
+stmt_meant tree.Nothing = Some Skip
+stmt_meant (tree.Then first rest) = then_of (stmt_meant first) (stmt_meant rest)
+stmt_meant (tree.LetStmt at true target rhs) = option_map (Let target.text) (rhs_meant rhs)
+stmt_meant other = None
+
+-- a name of a written type
+abbrev pub variable_meant : NameTree → WrittenTree → Option Variable
+variable_meant name ty = option_map (λ t. record { name = name.text; ty = t }) (type_meant ty)
+
+-- a variable and those behind it, where all mean something
+abbrev pub more_of : Option Variable → Option (List Variable) → Option (List Variable)
+more_of (Some variable) (Some variables) = Some (variable ∷ variables)
+more_of variable variables = None
+
+abbrev pub variables_meant : List ParamTree → Option (List Variable)
+variables_meant [] = Some []
+variables_meant (param ∷ params) = more_of (variable_meant param.name param.ty) (variables_meant params)
+
+-- the parts of a function, where all mean something
+abbrev pub whole_of : Option (List Variable) → Option Variable → Option Stmt → Option Function
+whole_of (Some parameters) (Some result) (Some body) = Some (record { parameters = parameters; result = result; body = body })
+whole_of parameters result body = None
+
+-- the function that a tree stands for
+abbrev pub function_meant : FunTree → Option Function
+function_meant fun = whole_of (variables_meant fun.params) (variable_meant fun.returned fun.result) (stmt_meant fun.body)
+
+-- `fun main(a: bool, b: bool) -> bool { let c <- a && b; return c; }`
+pub main_meant : (at : Pos) → function_meant (record {
+  name = record { text = codes "main"; at = at };
+  bound = None;
+  params = record { name = record { text = codes "a"; at = at }; ty = BoolType at } ∷ record { name = record { text = codes "b"; at = at }; ty = BoolType at } ∷ [];
+  result = BoolType at;
+  body = tree.Then (tree.LetStmt at true (record { text = codes "c"; at = at }) (ExprRhs (OpExpr at op.And
+      (PlaceAtom at (record { root = record { text = codes "a"; at = at }; steps = [] }))
+      (PlaceAtom at (record { root = record { text = codes "b"; at = at }; steps = [] }))))) tree.Nothing;
+  return_at = at;
+  returned = record { text = codes "c"; at = at };
+}) ≡ Some main
+main_meant at = refl
