@@ -2,9 +2,11 @@
 use Rattle.std.proofs.Common.{◌≡◌, ◌∙◌, ap, sym, ℕ, ◌+◌, Bool, true, false, cond, List, [], ◌∷◌, ◌++◌, length, refl, append_assoc, arith, length-append}
 use mathlib.Core.List.{append-nil}
 use Rattle.std.specs.List.{AllByRecursion}
-use Rattle.tw_gate.specs.Gates.{PlainGate, X, H, T, Tdg, flipped, all_one, act_gate, act, inverse_gate, inverse, SparesControls}
+use Rattle.tw_bits.specs.Lists.{flipped}
+use Rattle.tw_bits.proofs.Laws.{flipped-flipped}
+use Rattle.tw_gate.specs.Gates.{PlainGate, X, H, T, Tdg, all_one, act_gate, act, inverse_gate, inverse, SparesControls}
 use Rattle.tw_gate.specs.Weight.{gate_weight, t_count}
-use Rattle.tw_gate.proofs.Act.{act-append, flipped-flipped, all_one-flipped}
+use Rattle.tw_gate.proofs.Act.{act-append, all_one-flipped}
 
 undoes : (controls : List ℕ) (target : ℕ) (bits : List Bool) (k : Bool) → all_one controls bits ≡ k → all_one controls (flipped bits target) ≡ k → act_gate (X controls target) (cond k (flipped bits target) bits) ≡ bits
 undoes controls target bits true before after = rw after (flipped-flipped bits target)

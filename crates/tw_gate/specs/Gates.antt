@@ -1,5 +1,6 @@
 -- Gates as plain data, and what a list of them does to bits.
-use Rattle.std.specs.Prelude.{◌≡◌, ℕ, zero, suc, Bool, true, false, not, ◌&&◌, if◌then◌else◌, List, [], ◌∷◌, ◌++◌, refl}
+use Rattle.std.specs.Prelude.{◌≡◌, ℕ, Bool, true, false, ◌&&◌, if◌then◌else◌, List, [], ◌∷◌, ◌++◌, refl}
+use Rattle.tw_bits.specs.Lists.{bit_at, flipped}
 use Rattle.tw_gate.specs.declared.gate.Gate.{Gate}
 use Rattle.tw_gate.specs.declared.gate.Gate.TheVariants as given
 
@@ -16,18 +17,6 @@ plain (given.X controls target) = X controls.now target
 plain (given.H wire) = H wire
 plain (given.T wire) = T wire
 plain (given.Tdg wire) = Tdg wire
-
--- the bit of a wire; a wire past the end is 0
-abbrev pub bit_at : List Bool → ℕ → Bool
-bit_at [] wire = false
-bit_at (b ∷ bits) zero = b
-bit_at (b ∷ bits) (suc wire) = bit_at bits wire
-
--- the bits with one of them flipped; a wire past the end flips none
-abbrev pub flipped : List Bool → ℕ → List Bool
-flipped [] wire = []
-flipped (b ∷ bits) zero = not b ∷ bits
-flipped (b ∷ bits) (suc wire) = b ∷ flipped bits wire
 
 -- whether all of these wires are 1
 abbrev pub all_one : List ℕ → List Bool → Bool
@@ -89,23 +78,11 @@ act-inverse-example = refl
 pub inverse-t_h : inverse (T 0 ∷ H 1 ∷ []) ≡ H 1 ∷ Tdg 0 ∷ []
 inverse-t_h = refl
 
-pub bit_at-inside : bit_at (false ∷ true ∷ []) 1 ≡ true
-bit_at-inside = refl
-
-pub bit_at-past : bit_at (false ∷ true ∷ []) 2 ≡ false
-bit_at-past = refl
-
 pub all_one-both : all_one (0 ∷ 2 ∷ []) (true ∷ false ∷ true ∷ []) ≡ true
 all_one-both = refl
 
 pub all_one-not : all_one (0 ∷ 1 ∷ []) (true ∷ false ∷ true ∷ []) ≡ false
 all_one-not = refl
-
-pub flipped_inside : flipped (true ∷ false ∷ true ∷ []) 2 ≡ true ∷ false ∷ false ∷ []
-flipped_inside = refl
-
-pub flipped_past : flipped (true ∷ false ∷ []) 2 ≡ true ∷ false ∷ []
-flipped_past = refl
 
 pub directed-inverse : directed true (T 0 ∷ H 1 ∷ []) ≡ H 1 ∷ Tdg 0 ∷ []
 directed-inverse = refl

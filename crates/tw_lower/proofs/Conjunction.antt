@@ -1,6 +1,7 @@
 -- The circuit of `&&`.
 use Rattle.std.proofs.Common.{◌≡◌, ◌∙◌, ℕ, ◌+◌, Bool, true, false, not, ◌&&◌, if◌then◌else◌, List, [], ◌∷◌, ◌++◌, length, refl, ap, arith}
-use Rattle.tw_gate.specs.Gates.{X, bit_at, flipped, act}
+use Rattle.tw_bits.specs.Lists.{bit_at, flipped}
+use Rattle.tw_gate.specs.Gates.{X, act}
 use Rattle.tw_lower.specs.Circuits.{and_gates}
 use Rattle.tw_lower.proofs.Fronts.{Changes, bit_at-behind, changes-gate, changes-then}
 

@@ -1,6 +1,7 @@
 -- Gates whose targets lie behind a front that they leave as it is.
 use Rattle.std.proofs.Common.{◌≡◌, ◌∙◌, ℕ, ◌+◌, Bool, true, false, if◌then◌else◌, List, [], ◌∷◌, ◌++◌, length, refl, ap, suc-add, zero-add}
-use Rattle.tw_gate.specs.Gates.{PlainGate, X, bit_at, flipped, all_one, act}
+use Rattle.tw_bits.specs.Lists.{bit_at, flipped}
+use Rattle.tw_gate.specs.Gates.{PlainGate, X, all_one, act}
 use Rattle.tw_gate.proofs.Act.{act-append}
 
 -- behind the front, the gates take the old bits to the new ones, and the front stays

@@ -2,7 +2,8 @@
 use Rattle.std.proofs.Common.{◌≡◌, ◌≢◌, ◌∙◌, ℕ, ◌+◌, ◌-◌, Bool, true, false, not, ◌&&◌, if◌then◌else◌, List, [], ◌∷◌, ◌++◌, length, map, flat_map, replicate, Option, Some, None, refl, ap, sym, subst, arith, append_assoc, length-append, Contains}
 use Rattle.std.specs.List.{AllByRecursion}
 use Rattle.std.proofs.lemmas.Grind.{flat_map-append}
-use Rattle.tw_gate.specs.Gates.{bit_at, act, inverse}
+use Rattle.tw_bits.specs.Lists.{bit_at}
+use Rattle.tw_gate.specs.Gates.{act, inverse}
 use Rattle.tw_types.specs.declared.widths.Widths.{Widths}
 use Rattle.tw_types.specs.Types.{Target, size}
 use Rattle.tw_types.specs.Values.{Value, Truth, padded}

@@ -3,8 +3,10 @@ use Rattle.std.proofs.Common.{◌≡◌, ℕ, ◌+◌, ◌*◌, ◌≤◌, max, 
 use Rattle.std.specs.List.{AllByRecursion}
 use Rattle.tw_types.specs.declared.widths.Widths.{Widths}
 use Rattle.tw_types.specs.Types.{Ty, Target, size, block_count, block_size}
-use Rattle.tw_types.specs.Values.{value_bits, number_bits}
-use Rattle.tw_types.proofs.Lengths.{length-number_bits, length-value_bits, length-padded, addr-le-block_size}
+use Rattle.tw_bits.specs.Numbers.{number_bits}
+use Rattle.tw_bits.proofs.Laws.{length-number_bits}
+use Rattle.tw_types.specs.Values.{value_bits}
+use Rattle.tw_types.proofs.Lengths.{length-value_bits, length-padded, addr-le-block_size}
 use Rattle.tw_state.specs.States.{Cell, Free, Live, Store, State}
 use Rattle.tw_state.specs.Programs.{Variable}
 use Rattle.tw_state.specs.Typing.{target_type, IsCell, HasVariable, IsTyped}

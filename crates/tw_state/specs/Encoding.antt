@@ -3,7 +3,8 @@ use Rattle.std.specs.Prelude.{ℕ, Bool, List, [], ◌++◌, unwrap_or, option_m
 use Rattle.std.specs.List.{flat_map}
 use Rattle.tw_types.specs.declared.widths.Widths.{Widths}
 use Rattle.tw_types.specs.Types.{Target, block_size}
-use Rattle.tw_types.specs.Values.{value_bits, number_bits, padded}
+use Rattle.tw_bits.specs.Numbers.{number_bits}
+use Rattle.tw_types.specs.Values.{value_bits, padded}
 use Rattle.tw_state.specs.States.{Cell, Free, Live, Store, State}
 use Rattle.tw_state.specs.Programs.{Variable, Function}
 use Rattle.tw_state.specs.Typing.{variables_at_end}

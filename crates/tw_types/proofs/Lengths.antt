@@ -1,14 +1,9 @@
--- How many bits numbers, values and padded bits have.
-use Rattle.std.proofs.Common.{◌≡◌, ℕ, zero, suc, ◌≤◌, ◌/◌, Bool, List, [], ◌∷◌, length, refl, ap, arith, length-append}
+-- How many bits values and padded bits have.
+use Rattle.std.proofs.Common.{◌≡◌, ℕ, ◌≤◌, Bool, List, [], ◌∷◌, length, refl, arith, length-append}
 use Rattle.std.proofs.lemmas.List.{length-replicate}
 use Rattle.tw_types.specs.declared.widths.Widths.{Widths}
 use Rattle.tw_types.specs.Types.{Ty, Boolean, Target, size, block_size}
-use Rattle.tw_types.specs.Values.{Value, Truth, HasType, value_bits, number_bits, padded}
-
--- a number has as many bits as are asked for
-pub length-number_bits : (width n : ℕ) → length (number_bits width n) ≡ width
-length-number_bits zero n = refl
-length-number_bits (suc width) n = ap suc (length-number_bits width (n / 2))
+use Rattle.tw_types.specs.Values.{Value, Truth, HasType, value_bits, padded}
 
 -- a value has as many bits as its type
 pub length-value_bits : (widths : Widths) (value : Value) (ty : Ty) → HasType widths value ty → length (value_bits widths value) ≡ size widths ty

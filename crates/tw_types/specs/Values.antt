@@ -1,5 +1,5 @@
 -- Values, which type they have, and the bits that encode them.
-use Rattle.std.specs.Prelude.{◌≡◌, ℕ, zero, suc, ◌-◌, ◌/◌, ◌%◌, ◌==◌, Bool, true, false, List, [], ◌∷◌, ◌++◌, length, replicate, refl}
+use Rattle.std.specs.Prelude.{◌≡◌, ℕ, ◌-◌, Bool, true, false, List, [], ◌∷◌, ◌++◌, length, replicate, refl}
 use Rattle.tw_types.specs.declared.widths.Widths.{Widths}
 use Rattle.tw_types.specs.Types.{Ty, Boolean}
 
@@ -15,18 +15,9 @@ HasType widths (Truth is) Boolean = Unit {0}
 abbrev pub value_bits : Widths → Value → List Bool
 value_bits widths (Truth is) = is ∷ []
 
--- a number in so many bits, least bit first
-abbrev pub number_bits : ℕ → ℕ → List Bool
-number_bits zero n = []
-number_bits (suc width) n = (n % 2 == 1) ∷ number_bits width (n / 2)
-
 -- the bits, followed by zeros up to this length
 abbrev pub padded : ℕ → List Bool → List Bool
 padded len bits = bits ++ replicate (len - length bits) false
-
--- six in four bits
-pub six_in_four_bits : number_bits 4 6 ≡ false ∷ true ∷ true ∷ false ∷ []
-six_in_four_bits = refl
 
 pub one_padded_to_three : padded 3 (value_bits (record { word = 1; addr = 1 }) (Truth true)) ≡ true ∷ false ∷ false ∷ []
 one_padded_to_three = refl
