@@ -7,7 +7,9 @@ use Rattle.tw_gatetext.specs.Valid.{FitsWires, IsValid}
 use Rattle.tw_gatetext.proofs.Bounds.{file_text-tells}
 use Rattle.tw_types.specs.declared.widths.Widths.{Widths}
 use Rattle.tw_state.specs.Programs.{Function}
+use Rattle.tw_state.specs.Typing.{variables_at_end}
 use Rattle.tw_frames.specs.Layout.{layout_of}
+use Rattle.tw_frames.proofs.Wires.{AreBoolean}
 use Rattle.tw_lower.specs.Circuits.{and_gates, function_gates}
 use Rattle.tw_lower.specs.Correct.{IsConjunction}
 use Rattle.tw_lower.proofs.Implemented.{function_gates-conjunction, inverse-conjunction, implements}
@@ -44,18 +46,18 @@ valid_file : (widths : Widths) (function : Function) (inverse : Bool) (gates : L
 valid_file widths function inverse gates same valid =
     subst (λ (gates : List PlainGate). IsValid (record { level = levels.Mcx; wires = (layout_of widths [] function).wires; t_count = t_count gates; gates = gates })) (sym same) valid
 
-valid : (widths : Widths) (inverse : Bool) {function : Function} {left right : List ℕ} → IsConjunction function left right → widths.addr ≤ 8 → length function.parameters ≤ 2 → IsValid (file_of widths inverse function)
-valid widths inverse {function} is narrow few =
-    let at = places widths is in
+valid : (widths : Widths) (inverse : Bool) {function : Function} {left right : List ℕ} → IsConjunction function left right → AreBoolean (variables_at_end function) → widths.addr ≤ 8 → length function.parameters ≤ 2 → IsValid (file_of widths inverse function)
+valid widths inverse {function} is booleans narrow few =
+    let at = places widths is booleans in
     let within = wires-within widths at narrow few in
     valid_file widths function inverse _ (directed-conjunction widths inverse is ∙ function_gates-conjunction widths [] is)
     (valid_gates _ _ _ _ _ at.left_below at.right_below at.scratch_at at.wires_at within)
 
 -- the defined file of a function of the first form can be trusted
-pub compiled : (options : Options) {function : Function} {left right : List ℕ} → IsConjunction function left right → length function.parameters ≤ 2 → options.widths.addr ≤ 8 →
+pub compiled : (options : Options) {function : Function} {left right : List ℕ} → IsConjunction function left right → AreBoolean (variables_at_end function) → length function.parameters ≤ 2 → options.widths.addr ≤ 8 →
     IsCompiled options function (file_of options.widths options.inverse function)
-compiled options {function} is few narrow =
-    let fine = valid options.widths options.inverse is narrow few in
+compiled options {function} is booleans few narrow =
+    let fine = valid options.widths options.inverse is booleans narrow few in
     record {
       defined = refl;
       valid = fine;

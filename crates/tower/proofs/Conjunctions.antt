@@ -12,6 +12,7 @@ use Rattle.tw_gatetext.specs.Text.{File}
 use Rattle.tw_types.specs.declared.widths.Widths.{Widths}
 use Rattle.tw_state.specs.States.{Name}
 use Rattle.tw_frames.specs.Layout.{layout_of, wire_from, wire_of}
+use Rattle.tw_frames.proofs.Wires.{AreBoolean}
 use Rattle.tw_lower.specs.Circuits.{and_gates, function_gates}
 use Rattle.tw_lower.specs.Correct.{IsConjunction}
 use Rattle.tw_lower.proofs.Implemented.{function_gates-conjunction}
@@ -71,6 +72,11 @@ conjunction form is =
       right_known = known form.right _ right.right_known;
     }
 
+-- all its variables are truth values
+booleans : (names : List Name) (result : Name) → AreBoolean (map boolean names ++ boolean result ∷ [])
+booleans [] result = (refl, tt)
+booleans (name ∷ names) result = (refl, booleans names result)
+
 same_name : (name other : Name) → is_among name (other ∷ []) ≡ true → bytes_eq other name ≡ true
 same_name name other is = by_test (bytes_eq name other) refl is
   where
@@ -126,7 +132,7 @@ pub file-numbered : (widths : Widths) (inverse : Bool) (form : Form) (arguments 
 file-numbered widths inverse form arguments left right result scratch wires is at =
     let known = rightness form is in
     let one = conjunction form is in
-    let regions = places widths one in
+    let regions = places widths one (booleans (parameters_of form.first form.second) form.result) in
     let same : arguments ≡ (layout_of widths [] (function_of form)).arguments = at.arguments_at ∙ sym regions.arguments_at in
     let many : length (map boolean (parameters_of form.first form.second)) ≡ length (parameters_of form.first form.second) = length-map (parameters_of form.first form.second) boolean in
     let same_result : result ≡ (layout_of widths [] (function_of form)).result = at.result_at ∙ ap (λ a. a + length (parameters_of form.first form.second)) same ∙ ap (λ (n : ℕ). (layout_of widths [] (function_of form)).arguments + n) (sym many) ∙ sym regions.result_at in

@@ -6,6 +6,7 @@ pub mod Asking
 pub mod Asked
 pub mod Conjunctions
 pub mod TreesMeant
+pub mod TypesMeant
 pub mod FirstTrees
 pub mod Inputs
 pub mod Long

@@ -25,6 +25,7 @@ use Rattle.tower.proofs.Asked.{asks-complete}
 use Rattle.tower.proofs.Answering.{is_answer}
 use Rattle.tower.proofs.Binds.{some_is}
 use Rattle.tower.proofs.Compiles.{compiled}
+use Rattle.tower.proofs.TypesMeant.{meant-booleans}
 use Rattle.tower.proofs.Inputs.{one_tree, one_refused, not_refused, one_function}
 
 -- there is one answer
@@ -109,7 +110,7 @@ file_built options bytes tree text words before now asks input (Built function f
   first = first;
   file = file_of options.widths options.inverse function;
   printed = subst (Appends before now) same took;
-  compiled = compiled options first.conjunction first.one_or_two.1 asks.addr_in_range.1;
+  compiled = compiled options first.conjunction (meant-booleans first.fun function first.meant) first.one_or_two.1 asks.addr_in_range.1;
 }
 file_built options bytes tree text words before now asks input (NotBuilt none e same) took = cc
 

@@ -181,14 +181,14 @@ parameters-meant [] first second h = cc
 parameters-meant (p ∷ q ∷ r ∷ params) first second h = cc
 
 -- a variable and those behind it
-record Parts (v : Option Variable) (vs : Option (List Variable)) (all : List Variable) : Type 0 where
+pub record Parts (v : Option Variable) (vs : Option (List Variable)) (all : List Variable) : Type 0 where
   pub first : Variable
   pub rest : List Variable
   pub first_is : v ≡ Some first
   pub rest_is : vs ≡ Some rest
   pub whole : all ≡ first ∷ rest
 
-more_parts : (v : Option Variable) (vs : Option (List Variable)) (all : List Variable) → more_of v vs ≡ Some all → Parts v vs all
+pub more_parts : (v : Option Variable) (vs : Option (List Variable)) (all : List Variable) → more_of v vs ≡ Some all → Parts v vs all
 more_parts (Some x) (Some xs) all h = record { first = x; rest = xs; first_is = refl; rest_is = refl; whole = sym (some_is _ _ h) }
 more_parts None vs all h = cc
 more_parts (Some x) None all h = cc

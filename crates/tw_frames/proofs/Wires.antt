@@ -1,5 +1,5 @@
 -- The bits of variables, and the wires at which they lie.
-use Rattle.std.proofs.Common.{◌≡◌, ◌≢◌, ℕ, ◌+◌, ◌≤◌, ◌<◌, Bool, true, false, if◌then◌else◌, List, [], ◌∷◌, ◌++◌, length, map, flat_map, Some, Contains, refl, sym, arith, length-append, append_assoc, bytes_eq, Decides, true≢false, one-add}
+use Rattle.std.proofs.Common.{◌≡◌, ◌≢◌, ℕ, ◌+◌, ◌≤◌, ◌<◌, Bool, true, false, if◌then◌else◌, List, [], ◌∷◌, ◌++◌, length, map, flat_map, Some, Contains, refl, ap, sym, arith, length-append, append_assoc, bytes_eq, Decides, true≢false, one-add}
 use Rattle.std.specs.List.{AllByRecursion}
 use Rattle.std.proofs.lemmas.Map.Made.{Contains-tail}
 use Rattle.std.proofs.lemmas.Slice.Eq.{bytes_eq-Decides}
@@ -21,15 +21,19 @@ length-variables_bits widths store [] all = refl
 length-variables_bits widths store (variable ∷ variables) all =
     rw (length-append, length-variable_bits widths store variable all.0, length-variables_bits widths store variables all.1)
 
--- each type has one bit
-pub size-truth : (widths : Widths) (ty : Ty) → size widths ty ≡ 1
-size-truth widths Boolean = refl
+-- the variables are truth values
+abbrev pub AreBoolean : List Variable → Type 0
+AreBoolean variables = AllByRecursion (λ variable. variable.ty ≡ Boolean) variables
+
+-- such a variable has one bit
+pub size-truth : (widths : Widths) {ty : Ty} → ty ≡ Boolean → size widths ty ≡ 1
+size-truth widths is = ap (size widths) is
 
 -- as many bits as variables
-pub variables_size-length : (widths : Widths) (variables : List Variable) → variables_size widths variables ≡ length variables
-variables_size-length widths [] = refl
-variables_size-length widths (variable ∷ variables) =
-    rw (size-truth widths variable.ty, variables_size-length widths variables, one-add)
+pub variables_size-length : (widths : Widths) (variables : List Variable) → AreBoolean variables → variables_size widths variables ≡ length variables
+variables_size-length widths [] all = refl
+variables_size-length widths (variable ∷ variables) all =
+    rw (size-truth widths all.0, variables_size-length widths variables all.1, one-add)
 
 -- the bit behind a front
 bit_at-length : (front back : List Bool) (bit : Bool) → bit_at (front ++ bit ∷ back) (length front) ≡ bit
@@ -61,13 +65,13 @@ wire_from-behind widths variable more [] fresh first = rw (bytes_eq-same variabl
 wire_from-behind widths variable more (other ∷ variables) fresh first =
     rw (bytes_eq-apart other.name variable.name fresh.0, wire_from-behind widths variable more variables fresh.1 (first + size widths other.ty)) (omega arith)
 
--- the wire of a known name is one of the variables' wires, since each variable has one bit
-pub wire_from-within : (widths : Widths) (more : List Variable) (name : Name) (variables : List Variable) → Contains (map (λ v. v.name) variables) name → (first : ℕ) → (first ≤ wire_from widths first (variables ++ more) name) × (wire_from widths first (variables ++ more) name < first + variables_size widths variables)
-wire_from-within widths more name [] known first = absurd (omega (arith, known.1))
-wire_from-within widths more name (variable ∷ variables) known first =
+-- the wire of a known name is one of the variables' wires, where each variable has one bit
+pub wire_from-within : (widths : Widths) (more : List Variable) (name : Name) (variables : List Variable) → AreBoolean variables → Contains (map (λ v. v.name) variables) name → (first : ℕ) → (first ≤ wire_from widths first (variables ++ more) name) × (wire_from widths first (variables ++ more) name < first + variables_size widths variables)
+wire_from-within widths more name [] all known first = absurd (omega (arith, known.1))
+wire_from-within widths more name (variable ∷ variables) all known first =
     by (bytes_eq variable.name name) (bytes_eq-Decides variable.name name).1
-    (λ apart. wire_from-within widths more name variables (Contains-tail variable.name (map (λ v. v.name) variables) name apart known) (first + size widths variable.ty))
+    (λ apart. wire_from-within widths more name variables all.1 (Contains-tail variable.name (map (λ v. v.name) variables) name apart known) (first + size widths variable.ty))
   where
     by : (test : Bool) → (variable.name ≡ name → test ≡ true) → ((variable.name ≡ name → ⊥) → (first + size widths variable.ty ≤ wire_from widths (first + size widths variable.ty) (variables ++ more) name) × (wire_from widths (first + size widths variable.ty) (variables ++ more) name < (first + size widths variable.ty) + variables_size widths variables)) → (first ≤ (if test then first else wire_from widths (first + size widths variable.ty) (variables ++ more) name)) × ((if test then first else wire_from widths (first + size widths variable.ty) (variables ++ more) name) < first + (size widths variable.ty + variables_size widths variables))
-    by true test deeper = let one = size-truth widths variable.ty in (omega arith, omega arith)
+    by true test deeper = let one = size-truth widths all.0 in (omega arith, omega arith)
     by false test deeper = let there = deeper (λ same. true≢false (sym (test same))) in (omega arith, omega arith)

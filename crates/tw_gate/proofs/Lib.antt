@@ -1,2 +1,5 @@
 pub mod Act
+pub mod Entries
 pub mod Inverse
+pub mod Taking
+pub mod NextGate

@@ -1,5 +1,6 @@
 -- Gates as plain data, and what a list of them does to bits.
-use Rattle.std.specs.Prelude.{◌≡◌, ℕ, Bool, true, false, ◌&&◌, if◌then◌else◌, List, [], ◌∷◌, ◌++◌, refl}
+use Rattle.std.specs.Prelude.{◌≡◌, ℕ, ◌<◌, Bool, true, false, ◌&&◌, if◌then◌else◌, List, [], ◌∷◌, ◌++◌, refl}
+use Rattle.std.specs.List.{AllByRecursion}
 use Rattle.tw_bits.specs.Lists.{bit_at, flipped}
 use Rattle.tw_gate.specs.declared.gate.Gate.{Gate}
 use Rattle.tw_gate.specs.declared.gate.Gate.TheVariants as given
@@ -43,6 +44,18 @@ inverse_gate gate = gate
 abbrev pub inverse : List PlainGate → List PlainGate
 inverse [] = []
 inverse (gate ∷ gates) = inverse gates ++ inverse_gate gate ∷ []
+
+-- the controls of a gate; only X gates have some
+abbrev pub controls_of : PlainGate → List ℕ
+controls_of (X controls target) = controls
+controls_of _ = []
+
+-- all wires of a gate are below this number
+abbrev pub HasWiresBelow : ℕ → PlainGate → Type 0
+HasWiresBelow wires (X controls target) = AllByRecursion (λ c. c < wires) controls × (target < wires)
+HasWiresBelow wires (H wire) = wire < wires
+HasWiresBelow wires (T wire) = wire < wires
+HasWiresBelow wires (Tdg wire) = wire < wires
 
 -- the number is none of these
 abbrev pub IsNone : ℕ → List ℕ → Type 0

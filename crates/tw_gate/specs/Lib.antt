@@ -1,2 +1,5 @@
+pub mod Entries
 pub mod Gates
+pub mod Growing
+pub mod Taking
 pub mod Weight

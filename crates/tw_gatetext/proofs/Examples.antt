@@ -1,6 +1,8 @@
--- The worked example is a valid file.
-use Rattle.std.proofs.Common.{◌≡◌, ℕ, ◌<◌, refl, arith}
+-- The worked example is a valid file, and which wires fit a line.
+use Rattle.std.proofs.Common.{◌≡◌, ℕ, ◌<◌, [], ◌∷◌, refl, arith}
+use Rattle.tw_gate.specs.Gates.{X, H}
 use Rattle.tw_gatetext.specs.Text.{example_file}
+use Rattle.tw_gatetext.specs.Taking.{FitsLine}
 use Rattle.tw_gatetext.specs.Valid.{IsValid}
 
 apart : (a b : ℕ) → a < b → ¬ (b ≡ a)
@@ -33,3 +35,10 @@ IsValid-example = record {
   );
   counted = refl;
 }
+
+pub FitsLine-example : FitsLine (X (5 ∷ 6 ∷ []) 4)
+FitsLine-example = record { few = omega arith; low = ((omega arith, (omega arith, tt)), omega arith) }
+
+-- wire 1,048,576 fits no line
+pub FitsLine-high : FitsLine (H 1048576) → ⊥
+FitsLine-high fits = omega (arith, fits.low)

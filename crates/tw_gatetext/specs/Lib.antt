@@ -1,2 +1,4 @@
+pub mod Taking
+pub mod TakingLaws
 pub mod Text
 pub mod Valid

@@ -1,10 +1,14 @@
-ghost use Rattle.std.specs.Prelude.{◌≡◌, ◌<◌, ◌≤◌, length, take, Some, IfOk, OnErr};
-ghost use Rattle.tw_io.specs.Devices.{Appends, Rose};
+ghost use Rattle.std.specs.Prelude.{◌≡◌, ◌<◌, ◌≤◌, [], ◌∷◌, length, take, Some, IfOk, OnErr};
+ghost use Rattle.tw_io.specs.Devices.{Appends, Rose, Wrote};
+ghost use Rattle.tw_gate.specs.Gates.{plain};
+ghost use Rattle.tw_gate.specs.Taking.{Gave};
+ghost use Rattle.tw_gatetext.specs.Text.{lines};
+ghost use Rattle.tw_gatetext.specs.Taking.{FitsLine};
 
-use crate::{write_file, write_gate, write_header};
+use crate::{LineOut, write_file, write_gate, write_header};
 use std::alloc::{AllocError, Global};
-use tw_gate::{Gate, Level};
-use tw_io::{Failed, MemSink, Sink};
+use tw_gate::{Gate, GateOut, Level, Stopped};
+use tw_io::{Failed, MemSink, Sink, WriteFault};
 
 /// A sink that takes at most three bytes of a piece at a time.
 #[derive(Drop)]
@@ -56,6 +60,25 @@ fn write_inverse<K: Sink>(sink: &mut K) -> bool {
     write_file(sink, Level::T, 2, 1, &[Gate::T(0), Gate::H(1)], true).is_ok()
 }
 
+fn put_once<O: GateOut>(out: &mut O, gate: &Gate) -> Result<(), Stopped>
+    requires { O.fits out.old (plain gate.now) }
+    ensures { Gave O.took O.broke O.faults out.old out.new result (plain gate.now ∷ []) }
+{
+    out.put(gate)
+}
+
+/// Writes the line of a gate through a taker of gates.
+fn write_taken<K: Sink>(sink: &mut K, gate: &Gate) -> Result<(), WriteFault>
+    requires { FitsLine (plain gate.now) }
+    ensures { Wrote K.taken K.faults sink.old sink.new result (lines (plain gate.now ∷ [])) }
+{
+    let mut out = LineOut::new(sink);
+    match put_once(&mut out, gate) {
+        Ok(()) => Ok(()),
+        Err(Stopped) => Err(WriteFault),
+    }
+}
+
 fn ample(alloc: Global) -> Result<MemSink, AllocError> {
     MemSink::new(alloc, 1_000, Vec::new(alloc))
 }
@@ -94,6 +117,25 @@ fn stops_at_the_first_fault(rt: HostRuntime) -> Result<(), AllocError> {
         sink.taken(),
         b"tower-gates 1\nlevel mcx\nwires 7\ngates 5\nt-count 7\ncx 2 5\n".as_slice()
     );
+    Ok(())
+}
+
+#[test]
+fn a_taker_writes_lines(rt: HostRuntime) -> Result<(), AllocError> {
+    let gate = Gate::X {
+        controls: &[5, 6],
+        target: 4,
+    };
+    let mut sink = MemSink::new(rt.alloc(), 1_000, vec![in rt.alloc(); 2]?)?;
+    assert!(rt; write_taken(&mut sink, &gate).is_ok());
+    assert!(rt; write_taken(&mut sink, &Gate::H(1_048_575)).is_err());
+    assert!(rt; write_taken(&mut sink, &Gate::Tdg(0)).is_ok());
+    assert_eq!(rt; sink.taken(), b"ccx 5 6 4\ntdg 0\n".as_slice());
+    let mut parts = PartSink {
+        sink: ample(rt.alloc())?,
+    };
+    assert!(rt; write_taken(&mut parts, &gate).is_ok());
+    assert_eq!(rt; parts.sink.taken(), b"ccx 5 6 4\n".as_slice());
     Ok(())
 }
 

@@ -9,7 +9,7 @@ use Rattle.tw_types.specs.Types.{Target, size}
 use Rattle.tw_types.specs.Values.{Value, Truth, padded}
 use Rattle.tw_state.specs.States.{Name, State, with_value}
 use Rattle.tw_state.specs.Programs.{And, Function}
-use Rattle.tw_state.specs.Meaning.{both_values, Runs}
+use Rattle.tw_state.specs.Meaning.{operator_value, both_values, Runs}
 use Rattle.tw_state.specs.Typing.{HasVariable, HasResult, variables_at_end}
 use Rattle.tw_state.specs.Encoding.{memory_bits, variable_bits, encoded_at_start, encoded_at_end}
 use Rattle.tw_state.proofs.Renamed.{renames}
@@ -29,14 +29,21 @@ record Conjoined (function : Function) (left right : Name) (start end : State) :
   pub right_is : start.store right ≡ Some (Truth y)
   pub end_is : end ≡ record start { store = with_value start.store function.result.name (Truth (x && y)) }
 
--- `&&` has a value where both operands are truth values
+-- `&&` has a value where both values are truth values
+operands_are : (widths : Widths) (left right value : Value) → operator_value widths And left right ≡ Some value → (x y : Bool) × (left ≡ Truth x) × (right ≡ Truth y) × (value ≡ Truth (x && y))
+operands_are widths (Truth x) (Truth y) value worth = (x, y, refl, refl, cc)
+operands_are widths left right value worth = cc
+
+-- and so it is with operands
 both_are : (widths : Widths) (left right : Option Value) (value : Value) → both_values widths And left right ≡ Some value → (x y : Bool) × (left ≡ Some (Truth x)) × (right ≡ Some (Truth y)) × (value ≡ Truth (x && y))
-both_are widths (Some (Truth x)) (Some (Truth y)) value worth = (x, y, refl, refl, cc)
-both_are widths (Some (Truth x)) None value worth = cc
+both_are widths (Some left) (Some right) value worth =
+    let are = operands_are widths left right value worth in
+    (are.0, are.1, ap Some are.2, ap Some are.3, are.4)
+both_are widths (Some left) None value worth = cc
 both_are widths None right value worth = cc
 
 -- what holds of all of a list holds of its last
-all_last : {X : Type 0} (P : X → Type 0) (xs : List X) (x : X) → AllByRecursion P (xs ++ x ∷ []) → P x
+pub all_last : {X : Type 0} (P : X → Type 0) (xs : List X) (x : X) → AllByRecursion P (xs ++ x ∷ []) → P x
 all_last P [] x all = all.0
 all_last P (other ∷ xs) x all = all_last P xs x all.1
 

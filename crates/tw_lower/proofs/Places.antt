@@ -1,18 +1,25 @@
 -- The wires and the cost of a function that is one `&&`.
-use Rattle.std.proofs.Common.{◌≡◌, ◌∙◌, ℕ, ◌+◌, ◌-◌, ◌*◌, ◌^◌, ◌≤◌, ◌<◌, List, [], length, ◌∷◌, refl, ap, sym, arith}
+use Rattle.std.proofs.Common.{◌≡◌, ◌∙◌, ℕ, ◌+◌, ◌-◌, ◌*◌, ◌^◌, ◌≤◌, ◌<◌, List, [], length, ◌∷◌, ◌++◌, refl, ap, sym, arith}
 use Rattle.std.proofs.Math.Nat.{pow-le-pow_right}
 use Rattle.std.proofs.lemmas.Nat.{mul-le}
+use Rattle.std.specs.List.{AllByRecursion}
 use Rattle.tw_gate.specs.Weight.{t_count}
 use Rattle.tw_types.specs.declared.widths.Widths.{Widths}
-use Rattle.tw_types.specs.Types.{Target}
+use Rattle.tw_types.specs.Types.{Boolean, Target}
 use Rattle.tw_state.specs.States.{Name}
 use Rattle.tw_state.specs.Programs.{Function}
+use Rattle.tw_state.specs.Typing.{variables_at_end}
 use Rattle.tw_frames.specs.Layout.{scratch_size, layout_of, wire_of}
 use Rattle.tw_frames.specs.Cost.{cost}
-use Rattle.tw_frames.proofs.Wires.{size-truth, variables_size-length, wire_from-within}
+use Rattle.tw_frames.proofs.Wires.{AreBoolean, size-truth, variables_size-length, wire_from-within}
 use Rattle.tw_lower.specs.Circuits.{function_gates}
 use Rattle.tw_lower.specs.Correct.{IsConjunction}
-use Rattle.tw_lower.proofs.Implemented.{function_gates-conjunction}
+use Rattle.tw_lower.proofs.Implemented.{all_last, function_gates-conjunction}
+
+-- what holds of all of a list and one more holds of all of the list
+all_before : {X : Type 0} (P : X → Type 0) (xs : List X) (x : X) → AllByRecursion P (xs ++ x ∷ []) → AllByRecursion P xs
+all_before P [] x all = tt
+all_before P (other ∷ xs) x all = (all.0, all_before P xs x all.1)
 
 -- where the variables lie, without targets
 pub record Places (widths : Widths) (function : Function) (left right : Name) : Type 0 where
@@ -25,16 +32,17 @@ pub record Places (widths : Widths) (function : Function) (left right : Name) : 
   pub right_from : (layout_of widths [] function).arguments ≤ wire_of widths [] function right
   pub right_below : wire_of widths [] function right < (layout_of widths [] function).result
 
--- the places of the variables
-pub places : (widths : Widths) {function : Function} {left right : Name} → IsConjunction function left right → Places widths function left right
-places widths {function} {left} {right} is =
+-- the places of the variables, where all of them are truth values
+pub places : (widths : Widths) {function : Function} {left right : Name} → IsConjunction function left right → AreBoolean (variables_at_end function) → Places widths function left right
+places widths {function} {left} {right} is booleans =
     let layout = layout_of widths [] function in
-    let one = size-truth widths function.result.ty in
-    let left_within = wire_from-within widths (function.result ∷ []) left function.parameters is.left_known layout.arguments in
-    let right_within = wire_from-within widths (function.result ∷ []) right function.parameters is.right_known layout.arguments in
+    let parameters = all_before (λ variable. variable.ty ≡ Boolean) function.parameters function.result booleans in
+    let one = size-truth widths (all_last (λ variable. variable.ty ≡ Boolean) function.parameters function.result booleans) in
+    let left_within = wire_from-within widths (function.result ∷ []) left function.parameters parameters is.left_known layout.arguments in
+    let right_within = wire_from-within widths (function.result ∷ []) right function.parameters parameters is.right_known layout.arguments in
     record {
       arguments_at = refl;
-      result_at = ap (λ (n : ℕ). layout.arguments + n) (variables_size-length widths function.parameters);
+      result_at = ap (λ (n : ℕ). layout.arguments + n) (variables_size-length widths function.parameters parameters);
       scratch_at = ap (λ (n : ℕ). layout.result + n) one;
       wires_at = omega (arith, one, ap scratch_size is.body);
       left_from = left_within.0;

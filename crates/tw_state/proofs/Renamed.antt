@@ -4,21 +4,26 @@ use Rattle.std.proofs.Math.Path.{fun_ext}
 use Rattle.std.specs.List.{AllByRecursion}
 use Rattle.std.proofs.lemmas.List.FromFn.{length-map-range_with_len}
 use Rattle.tw_types.specs.declared.widths.Widths.{Widths}
-use Rattle.tw_types.specs.Types.{Ty, Boolean, Target, block_count}
-use Rattle.tw_types.specs.Values.{Value, Truth, HasType}
+use Rattle.tw_types.specs.Types.{Ty, UnitTy, Word, Boolean, Pointer, PairTy, Target, block_count}
+use Rattle.tw_types.specs.Values.{Value, UnitValue, Number, Truth, Address, PairValue, HasType}
 use Rattle.tw_state.specs.States.{Name, Cell, Free, Live, Store, State, cell_at, with_value}
 use Rattle.tw_state.specs.Programs.{Var, Operator, And, Expr, Binary, Stmt, Skip, Then, Let, Variable, Function}
-use Rattle.tw_state.specs.Meaning.{both_values, Assigns, Runs}
+use Rattle.tw_state.specs.Meaning.{operator_value, both_values, Assigns, Runs}
 use Rattle.tw_state.specs.Typing.{IsCell, Holds, IsTyped, HasResult, variables_at_end}
 use Rattle.tw_state.specs.Renaming.{Permutation, renamed_value, renamed_cell, cell_renamed_to, renamed_cells, renamed_store, renamed}
 use Rattle.tw_state.proofs.Cells.{all_so, all_of_range, all_at}
 use Rattle.tw_state.proofs.Chain.{well_formed-renamed}
 
 -- an operator makes of two renamed values the renamed value
+operator_value-renamed : (widths : Widths) (to : ℕ → ℕ) (operator : Operator) (left right value : Value) → operator_value widths operator left right ≡ Some value → operator_value widths operator (renamed_value to left) (renamed_value to right) ≡ Some (renamed_value to value)
+operator_value-renamed widths to And (Truth left) (Truth right) value worth = ap (option_map (renamed_value to)) worth
+operator_value-renamed widths to operator left right value worth = cc
+
+-- and so it is where both operands have a value
 both_values-renamed : (widths : Widths) (to : ℕ → ℕ) (operator : Operator) (left right : Option Value) (value : Value) → both_values widths operator left right ≡ Some value → both_values widths operator (option_map (renamed_value to) left) (option_map (renamed_value to) right) ≡ Some (renamed_value to value)
-both_values-renamed widths to And (Some (Truth left)) (Some (Truth right)) value worth = ap (option_map (renamed_value to)) worth
-both_values-renamed widths to And (Some (Truth left)) None value worth = cc
-both_values-renamed widths to And None right value worth = cc
+both_values-renamed widths to operator (Some left) (Some right) value worth = operator_value-renamed widths to operator left right value worth
+both_values-renamed widths to operator (Some left) None value worth = cc
+both_values-renamed widths to operator None right value worth = cc
 
 -- a store with one more value, renamed
 with_value-renamed : {blocks : ℕ} (pi : Permutation blocks) (store : Store) (name : Name) (value : Value) → renamed_store pi (with_value store name value) ≡ with_value (renamed_store pi store) name (renamed_value pi.to value)
@@ -49,7 +54,13 @@ module _ {blocks : ℕ} (pi : Permutation blocks) where
 module _ (widths : Widths) (pi : Permutation (block_count widths)) where
   -- a renamed value keeps its type
   value_typed-renamed : (value : Value) (ty : Ty) → HasType widths value ty → HasType widths (renamed_value pi.to value) ty
+  value_typed-renamed UnitValue UnitTy typed = typed
+  value_typed-renamed (Number n) Word typed = typed
   value_typed-renamed (Truth is) Boolean typed = typed
+  value_typed-renamed (Address block) (Pointer target) typed = pi.to_within block typed
+  value_typed-renamed (PairValue x y) (PairTy first second) typed =
+      (value_typed-renamed x first typed.0, value_typed-renamed y second typed.1)
+  value_typed-renamed value ty typed = absurd typed
 
   -- a renamed cell is one of the program
   cell_typed-renamed : (targets : List Target) (cell : Cell) → IsCell widths targets cell → IsCell widths targets (renamed_cell pi.to cell)

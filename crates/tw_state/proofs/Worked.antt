@@ -1,9 +1,9 @@
 -- Worked examples that take more than computing: a well-formed state, the result of a function, and renamed blocks.
 use Rattle.std.proofs.Common.{◌≡◌, ℕ, zero, suc, ◌≤◌, ◌==◌, true, List, [], ◌∷◌, count_by, Some, refl, arith, codes}
-use Rattle.tw_types.specs.Values.{Truth}
+use Rattle.tw_types.specs.Values.{Number, Truth, Address, PairValue}
 use Rattle.tw_state.specs.States.{Free, Links, IsWellFormed, cell_at, empty}
 use Rattle.tw_state.specs.Typing.{Holds, HasResult}
-use Rattle.tw_state.specs.Renaming.{Permutation, renamed}
+use Rattle.tw_state.specs.Renaming.{Permutation, renamed_value, renamed}
 use Rattle.tw_state.specs.Examples.{one_bit, main, operands, start, end}
 use Rattle.tw_state.proofs.Stores.{bytes_eq-apart}
 
@@ -105,3 +105,8 @@ turned = record {
 pub chain_turned : renamed turned (record { head = 2; cells = Free 0 ∷ Free 3 ∷ Free 1 ∷ []; store = empty }) ≡ record { head = 1; cells = Free 2 ∷ Free 3 ∷ Free 0 ∷ []; store = empty }
 unfolding turned
 chain_turned = refl
+
+-- `(2, (&2, null))` becomes `(2, (&1, null))`: addresses are renamed, also in pairs, and numbers stay
+pub addresses_turned : renamed_value turned.to (PairValue (Number 2) (PairValue (Address 2) (Address 0))) ≡ PairValue (Number 2) (PairValue (Address 1) (Address 0))
+unfolding turned
+addresses_turned = refl

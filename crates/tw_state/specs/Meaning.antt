@@ -9,9 +9,10 @@ use Rattle.tw_state.specs.Programs.{Atom, Var, Operator, And, Expr, Binary, Stmt
 abbrev pub atom_value : Store → Atom → Option Value
 atom_value store (Var name) = store name
 
--- what an operator makes of two values
+-- what an operator makes of two values, if they have the types that it takes
 abbrev pub operator_value : Widths → Operator → Value → Value → Option Value
 operator_value widths And (Truth left) (Truth right) = Some (Truth (left && right))
+operator_value widths operator left right = None
 
 -- what an operator makes of two operands, if both have a value
 abbrev pub both_values : Widths → Operator → Option Value → Option Value → Option Value

@@ -1,7 +1,7 @@
 -- Blocks under other addresses.
 use Rattle.std.specs.Prelude.{◌≡◌, ℕ, ◌≤◌, List, length, map, unwrap_or, option_map}
 use Rattle.std.specs.List.{range_with_len}
-use Rattle.tw_types.specs.Values.{Value, Truth}
+use Rattle.tw_types.specs.Values.{Value, Address, PairValue}
 use Rattle.tw_state.specs.States.{Cell, Free, Live, Store, State, cell_at}
 
 -- a permutation of the blocks 1 to `blocks`, with its inverse; 0, which is null, stays
@@ -17,7 +17,9 @@ pub record Permutation (blocks : ℕ) : Type 0 where
 
 -- the addresses in a value
 abbrev pub renamed_value : (ℕ → ℕ) → Value → Value
-renamed_value to (Truth is) = Truth is
+renamed_value to (Address block) = Address (to block)
+renamed_value to (PairValue x y) = PairValue (renamed_value to x) (renamed_value to y)
+renamed_value to other = other
 
 -- the link of a free cell, or the addresses in the value of a live one
 abbrev pub renamed_cell : (ℕ → ℕ) → Cell → Cell

@@ -1,14 +1,35 @@
 -- Types, their sizes, and the blocks of memory.
-use Rattle.std.specs.Prelude.{◌≡◌, ℕ, ◌-◌, ◌^◌, max, List, [], ◌∷◌, refl}
+use Rattle.std.specs.Prelude.{◌≡◌, ℕ, ◌+◌, ◌-◌, ◌^◌, max, List, [], ◌∷◌, refl}
 use Rattle.tw_types.specs.declared.widths.Widths.{Widths}
 
--- a type
+-- a type; a pointer has its target's number in the list of targets
 pub data Ty : Type 0 where
+  UnitTy : Ty
+  Word : Ty
   Boolean : Ty
+  Pointer : (target : ℕ) → Ty
+  PairTy : (first second : Ty) → Ty
 
 -- the number of bits of a type
 abbrev pub size : Widths → Ty → ℕ
+size widths UnitTy = 0
+size widths Word = widths.word
 size widths Boolean = 1
+size widths (Pointer target) = widths.addr
+size widths (PairTy first second) = size widths first + size widths second
+
+-- the extent: as the size, where `()` counts 1
+abbrev pub extent : Widths → Ty → ℕ
+extent widths UnitTy = 1
+extent widths Word = widths.word
+extent widths Boolean = 1
+extent widths (Pointer target) = widths.addr
+extent widths (PairTy first second) = extent widths first + extent widths second
+
+-- the depth: how far pairs stand in each other, from 1 on
+abbrev pub depth : Ty → ℕ
+depth (PairTy first second) = 1 + max (depth first) (depth second)
+depth other = 1
 
 -- a target of pointers: its type as it is written, and what that stands for
 pub record Target : Type 0 where
@@ -30,3 +51,30 @@ three_blocks = refl
 
 pub block_of_two_bits : block_size (record { word = 1; addr = 2 }) [] ≡ 2
 block_of_two_bits = refl
+
+-- a target `list`, which stands for `(uint, ptr<list>)`
+abbrev item : Ty
+item = PairTy Word (Pointer 0)
+
+-- in words of 32 bits and addresses of 8, an item has 40 bits, and its block as many
+pub size_of_item : size (record { word = 32; addr = 8 }) item ≡ 40
+size_of_item = refl
+
+pub block_of_item : block_size (record { word = 32; addr = 8 }) (record { written = 108 ∷ 105 ∷ 115 ∷ 116 ∷ []; ty = item } ∷ []) ≡ 40
+block_of_item = refl
+
+-- `((), (bool, ()))` has one bit, the extent 3 and the depth 3
+abbrev nested : Ty
+nested = PairTy UnitTy (PairTy Boolean UnitTy)
+
+pub size_of_nested : size (record { word = 3; addr = 2 }) nested ≡ 1
+size_of_nested = refl
+
+pub extent_of_nested : extent (record { word = 3; addr = 2 }) nested ≡ 3
+extent_of_nested = refl
+
+pub depth_of_nested : depth nested ≡ 3
+depth_of_nested = refl
+
+pub depth_of_word : depth Word ≡ 1
+depth_of_word = refl

@@ -1,19 +1,41 @@
 -- Values, which type they have, and the bits that encode them.
-use Rattle.std.specs.Prelude.{◌≡◌, ℕ, ◌-◌, Bool, true, false, List, [], ◌∷◌, ◌++◌, length, replicate, refl}
+use Rattle.std.specs.Prelude.{◌≡◌, ℕ, ◌-◌, ◌^◌, ◌<◌, ◌≤◌, Bool, true, false, List, [], ◌∷◌, ◌++◌, length, replicate, refl}
+use Rattle.tw_bits.specs.Numbers.{number_bits}
 use Rattle.tw_types.specs.declared.widths.Widths.{Widths}
-use Rattle.tw_types.specs.Types.{Ty, Boolean}
+use Rattle.tw_types.specs.Types.{Ty, UnitTy, Word, Boolean, Pointer, PairTy, block_count}
 
--- a value
+-- a value: `()`, a number, a truth value, an address or a pair
 pub data Value : Type 0 where
+  UnitValue : Value
+  Number : (n : ℕ) → Value
   Truth : (is : Bool) → Value
+  Address : (block : ℕ) → Value
+  PairValue : (first second : Value) → Value
 
--- the value has the type, at these widths
+-- the value has the type, at these widths: numbers fit into a word, and addresses are those of blocks or null
 abbrev pub HasType : Widths → Value → Ty → Type 0
+HasType widths UnitValue UnitTy = Unit {0}
+HasType widths (Number n) Word = n < 2 ^ widths.word
 HasType widths (Truth is) Boolean = Unit {0}
+HasType widths (Address block) (Pointer target) = block ≤ block_count widths
+HasType widths (PairValue x y) (PairTy first second) = HasType widths x first × HasType widths y second
+HasType widths value ty = ⊥
 
--- the bits of a value, least bit first
+-- the zero of a type: `()`, 0, false, null, or the pair of zeros
+abbrev pub zero_value : Ty → Value
+zero_value UnitTy = UnitValue
+zero_value Word = Number 0
+zero_value Boolean = Truth false
+zero_value (Pointer target) = Address 0
+zero_value (PairTy first second) = PairValue (zero_value first) (zero_value second)
+
+-- the bits of a value, least bit first, and the first half of a pair before the second
 abbrev pub value_bits : Widths → Value → List Bool
+value_bits widths UnitValue = []
+value_bits widths (Number n) = number_bits widths.word n
 value_bits widths (Truth is) = is ∷ []
+value_bits widths (Address block) = number_bits widths.addr block
+value_bits widths (PairValue x y) = value_bits widths x ++ value_bits widths y
 
 -- the bits, followed by zeros up to this length
 abbrev pub padded : ℕ → List Bool → List Bool
@@ -21,3 +43,20 @@ padded len bits = bits ++ replicate (len - length bits) false
 
 pub one_padded_to_three : padded 3 (value_bits (record { word = 1; addr = 1 }) (Truth true)) ≡ true ∷ false ∷ false ∷ []
 one_padded_to_three = refl
+
+-- `(6, (true, &2))` in words of three bits and addresses of two
+pub six_true_and_block_2 :
+    value_bits (record { word = 3; addr = 2 }) (PairValue (Number 6) (PairValue (Truth true) (Address 2)))
+    ≡ false ∷ true ∷ true ∷ true ∷ false ∷ true ∷ []
+six_true_and_block_2 = refl
+
+-- `((), true)` is one bit
+pub unit_has_no_bits : value_bits (record { word = 3; addr = 2 }) (PairValue UnitValue (Truth true)) ≡ true ∷ []
+unit_has_no_bits = refl
+
+-- the zero of `(uint, ptr<..>)`, in as many zeros as its size
+pub zero_of_item : zero_value (PairTy Word (Pointer 0)) ≡ PairValue (Number 0) (Address 0)
+zero_of_item = refl
+
+pub bits_of_zero : value_bits (record { word = 2; addr = 1 }) (zero_value (PairTy Word (Pointer 0))) ≡ false ∷ false ∷ false ∷ []
+bits_of_zero = refl

@@ -1,7 +1,17 @@
-//! Types and values.
-//! The definitions of `specs/` say which values a type has and which bits encode them.
+//! Types and values: their sizes and zeros, the bits that encode them, and the table of the targets of pointers.
+//! The definitions of `specs/` say which values a type has and which bits encode them, and `proofs/` that these are one to one.
 #![tactic(auto)]
 
+mod coding;
+mod targets;
+#[cfg(test)]
+mod tests;
+mod types;
+mod values;
 mod widths;
 
+pub use coding::{decode_from, encode_into};
+pub use targets::Targets;
+pub use types::{TargetId, Ty, size_of};
+pub use values::{Val, copy_val, has_type, same, zero_of};
 pub use widths::Widths;

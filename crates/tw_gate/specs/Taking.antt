@@ -1,0 +1,32 @@
+-- What a call that gives gates to a taker did, and what a list of gates took.
+use Rattle.std.specs.Prelude.{◌≡◌, ℕ, ◌+◌, ◌-◌, ◌^◌, ◌≤◌, min, List, [], ◌∷◌, ◌++◌, Result, OnOk, OnErr, refl}
+use Rattle.tw_gate.specs.declared.out.Stopped.{Stopped}
+use Rattle.tw_gate.specs.Gates.{PlainGate, T, H}
+
+-- a count of 64 bits rose, or stands at its last value
+abbrev pub Rose : ℕ → ℕ → Type 0
+Rose before now = min (before + 1) (2 ^ 64 - 1) ≤ now
+
+-- what a call that gives gates to a taker did: Ok took them all; Stopped broke in them, and the taker's count rose
+pub record Gave {O : Type 0} (took broke : O → O → List PlainGate → Type 0) (faults : O → ℕ) (old new : O) (result : Result (Unit {0}) Stopped) (gates : List PlainGate) : Type 0 where
+  pub whole : OnOk result (took old new gates)
+  pub broken : OnErr result (broke old new gates)
+  pub cause : OnErr result (Rose (faults old) (faults new))
+  pub steady : faults old ≤ faults new
+
+-- a list took these gates: they stand behind its own
+abbrev pub Grew : List PlainGate → List PlainGate → List PlainGate → Type 0
+Grew before now gates = now ≡ before ++ gates
+
+-- a list took a front of these gates
+pub record GrewFront (before now gates : List PlainGate) : Type 0 where
+  pub front : List PlainGate
+  pub rest : List PlainGate
+  pub split : gates ≡ front ++ rest
+  pub grew : Grew before now front
+
+Grew-two : Grew (T 0 ∷ []) (T 0 ∷ H 1 ∷ T 2 ∷ []) (H 1 ∷ T 2 ∷ [])
+Grew-two = refl
+
+GrewFront-one : GrewFront (T 0 ∷ []) (T 0 ∷ H 1 ∷ []) (H 1 ∷ T 2 ∷ [])
+GrewFront-one = record { front = H 1 ∷ []; rest = T 2 ∷ []; split = refl; grew = refl }

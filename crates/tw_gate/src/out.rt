@@ -1,0 +1,49 @@
+//! Takers of gates: what a call gives its gates to, one after the other.
+ghost use Rattle.std.specs.Prelude.{◌≡◌, ℕ, ◌≤◌, ◌↔◌, List, [], ◌∷◌, ◌++◌};
+ghost use Rattle.tw_gate.specs.Gates.{PlainGate, plain};
+ghost use Rattle.tw_gate.specs.Taking.{Gave};
+
+use crate::gate::Gate;
+use thiserror::Error;
+
+/// A taker stopped: it took a part of the gates that it was given, and its count of faults rose.
+#[derive(Clone, Copy, Debug, Error)]
+#[error("the gates were not all taken")]
+pub struct Stopped;
+
+/// What takes gates in order, as a list in memory, a text that is written, or a counter.
+///
+/// Between a state before, a state after and a list of gates, `took` says that the whole list was taken, and `broke` that a
+/// part of it was taken before a stop. `fits` says which gates fit a state. `faults` counts the stops, and stays at the
+/// greatest `u64` once there.
+pub trait GateOut {
+    ghost took: { Self → Self → List PlainGate → Type 0 };
+
+    ghost broke: { Self → Self → List PlainGate → Type 0 };
+
+    ghost fits: { Self → PlainGate → Type 0 };
+
+    ghost faults: { Self → ℕ };
+
+    /// Takes a gate that fits.
+    ///
+    /// Ok where it took the gate. Where it stopped, it broke in the gate, and its count of faults rose.
+    fn put(&mut self, gate: &Gate) -> Result<(), Stopped>
+        requires { fits self.old (plain gate.now) }
+        ensures gave { Gave took broke faults self.old self.new result (plain gate.now ∷ []) };
+
+    /// A state took the empty list to itself.
+    ghost took_none: { (a : Self) → took a a [] };
+
+    /// Two lists that were taken one after the other were taken as one list.
+    ghost took_both: { (a b c : Self) (xs ys : List PlainGate) → took a b xs → took b c ys → took a c (xs ++ ys) };
+
+    /// A list that was taken, and then a break in a second list, is a break in both as one list.
+    ghost broke_later: { (a b c : Self) (xs ys : List PlainGate) → took a b xs → broke b c ys → broke a c (xs ++ ys) };
+
+    /// A break in a list is a break in every longer list that begins with it.
+    ghost broke_longer: { (a b : Self) (xs ys : List PlainGate) → broke a b xs → broke a b (xs ++ ys) };
+
+    /// After a list was taken the same gates fit as before.
+    ghost fits_stays: { (a b : Self) (xs : List PlainGate) (gate : PlainGate) → took a b xs → fits a gate ↔ fits b gate };
+}

@@ -1,0 +1,35 @@
+-- What a sink that was lent for gate lines took.
+use Rattle.std.specs.Prelude.{◌≡◌, ℕ, List, [], ◌∷◌, Option, Some, codes, refl}
+use Rattle.std.specs.Fmt.{digits}
+use Rattle.std.specs.Borrow.{MutBor}
+use Rattle.tw_io.specs.Devices.{Appends, AppendsFront}
+use Rattle.tw_gate.specs.Gates.{PlainGate, H, HasWiresBelow}
+use Rattle.tw_gatetext.specs.Text.{lines, HasFewControls}
+
+-- a gate that a file may hold on some number of wires: at most 64 controls, and all wires below 1,048,576
+pub record FitsLine (gate : PlainGate) : Type 0 where
+  pub few : HasFewControls gate
+  pub low : HasWiresBelow 1048576 gate
+
+-- the sink took the lines of these gates, and is the same that was lent
+pub record TookLines {K : Type 0} (taken : K → Option (List ℕ)) (old new : MutBor K) (gates : List PlainGate) : Type 0 where
+  pub same_sink : new.ghost_name ≡ old.ghost_name
+  pub whole : Appends (taken old.now) (taken new.now) (lines gates)
+
+-- the sink took a front of the lines of these gates, and is the same that was lent
+pub record BrokeLines {K : Type 0} (taken : K → Option (List ℕ)) (old new : MutBor K) (gates : List PlainGate) : Type 0 where
+  pub same_sink : new.ghost_name ≡ old.ghost_name
+  pub front : AppendsFront (taken old.now) (taken new.now) (lines gates)
+
+-- a sink took the line of a gate
+pub TookLines-one : (sink : MutBor (List ℕ)) → TookLines Some (record sink { now = codes "x 1\n" }) (record sink { now = codes "x 1\nh 2\n" }) (H 2 ∷ [])
+unfolding digits
+TookLines-one sink = record { same_sink = refl; whole = refl }
+
+-- a sink took two bytes of the line of a gate
+pub BrokeLines-two : (sink : MutBor (List ℕ)) → BrokeLines Some (record sink { now = codes "x 1\n" }) (record sink { now = codes "x 1\nh " }) (H 2 ∷ [])
+unfolding digits
+BrokeLines-two sink = record {
+  same_sink = refl;
+  front = record { front = codes "h "; rest = codes "2\n"; split = refl; taken = refl };
+}

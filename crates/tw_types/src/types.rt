@@ -1,0 +1,41 @@
+ghost use Rattle.std.specs.Prelude.{◌≡◌, ◌≤◌};
+ghost use Rattle.tw_types.specs.Types.{extent, size};
+ghost use Rattle.tw_types.specs.FromCode.{ty_of};
+
+use crate::widths::Widths;
+
+/// The number of a target of pointers: its place in the table of targets, from 0 on.
+#[derive(Debug, Clone, Copy, PartialEq, Eq)]
+pub struct TargetId(pub u32);
+
+/// A type, in which each name outside pointers stands for its expansion.
+/// A pointer keeps its target as it is written, by the target's number.
+#[derive(Clone, Copy)]
+pub enum Ty<'a> {
+    /// `()`, of no bits.
+    Unit,
+    /// `uint`, a word.
+    Uint,
+    /// `bool`, one bit.
+    Bool,
+    /// `ptr<T>`, an address.
+    Ptr(TargetId),
+    /// `(T, U)`, the bits of the first half and then those of the second.
+    Pair(&'a Ty<'a>, &'a Ty<'a>),
+}
+
+/// The number of bits of a type: the width of a word for `uint`, that of an address for a pointer, 1 for `bool`, 0 for `()`,
+/// and the sum of both halves for a pair. The type's extent, in which `()` counts 1, is at most 4,096.
+#[tactic(auto, using(crate::proofs::Extents::size_le_extent))]
+pub fn size_of(ty: &Ty, widths: Widths) -> u32
+    requires within { extent widths (ty_of ty.now) ≤ 4096 }
+    ensures { result ≡ size widths (ty_of ty.now) }
+{
+    match ty {
+        Ty::Unit => 0,
+        Ty::Uint => widths.word,
+        Ty::Bool => 1,
+        Ty::Ptr(_) => widths.addr,
+        Ty::Pair(first, second) => size_of(first, widths) + size_of(second, widths),
+    }
+}
