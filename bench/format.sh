@@ -7,20 +7,13 @@ folder=$(mktemp -d)
 trap 'rm -rf "$folder"' EXIT
 "$here/yathrefon" format < /dev/null > /dev/null || true   # builds the program
 
-python3 - "$folder" "$here/crates/yathrefon/out/yathrefon" "$here/examples/length.printed" <<'END'
-import pathlib, subprocess, sys, time
+PYTHONPATH="$here/bench" python3 - "$folder" "$here/crates/yathrefon/out/yathrefon" "$here/examples/length.printed" <<'END'
+import pathlib
+import sys
+from timing import best
 
 folder, program, example = pathlib.Path(sys.argv[1]), sys.argv[2], pathlib.Path(sys.argv[3]).read_text()
 head, function = example.split("\n", 1)
-
-def best(command, path):
-    times = []
-    for _ in range(5):
-        with open(path, "rb") as source:
-            start = time.perf_counter()
-            subprocess.run(command, stdin=source, stdout=subprocess.DEVNULL)
-            times.append(time.perf_counter() - start)
-    return min(times)
 
 before = None
 for size in (100_000, 1_000_000, 10_000_000):
