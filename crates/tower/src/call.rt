@@ -19,11 +19,11 @@ use tw_io::{Sink, Source};
 /// `format` reads a program and writes it in its one form.
 ///
 /// `compile --word W --addr A --entry main`, with `--inverse` where wanted and the options in any order, reads a program
-/// and writes the gate file of it, or the inverse file. `W`, from 1 to 32, is the width of a word, which no program uses
-/// yet; `A`, from 1 to 8, is that of an address. Programs of one form are compiled so far, and all others are refused as
+/// and writes the gate file of it, or the inverse file. `W`, from 1 to 32, is the width of a word, which no program that
+/// is compiled uses yet; `A`, from 1 to 8, is that of an address. Programs of one form are compiled so far, and all others are refused as
 /// not built.
 ///
-/// A source that is not a program is refused with a line that says why, and where.
+/// A source that is not a program is refused with a line that says why, and where unless a limit is passed.
 pub fn tower_main<S: Source, K: Sink>(
     alloc: Global,
     words: &Words,

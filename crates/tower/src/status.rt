@@ -36,7 +36,7 @@ pub enum Status {
     LevelT,
     /// A run has no result on a state.
     Stuck,
-    /// The source is none that this version compiles.
+    /// The source is a program, and none of those that are compiled.
     NotBuilt,
 }
 

@@ -30,7 +30,7 @@ impl Model for Bits {
 }
 
 impl Bits {
-    /// A list of `n` zeros. An error comes only for want of memory.
+    /// A list of `n` zeros. An error: there is no memory for it.
     pub fn zeros(alloc: Global, n: usize) -> Result<Bits, AllocError>
         ensures { IfOk result (λ bits. bits ≡ replicate n false) }
     {

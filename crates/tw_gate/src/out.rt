@@ -11,7 +11,7 @@ use thiserror::Error;
 #[error("the gates were not all taken")]
 pub struct Stopped;
 
-/// What takes gates in order, as a list in memory, a text that is written, or a counter.
+/// What takes gates in order, as a list in memory or a sink that takes their lines.
 ///
 /// Between a state before, a state after and a list of gates, `took` says that the whole list was taken, and `broke` that a
 /// part of it was taken before a stop. `fits` says which gates fit a state. `faults` counts the stops, and stays at the

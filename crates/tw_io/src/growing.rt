@@ -7,7 +7,7 @@ use crate::outside::{Failed, Sink};
 use std::alloc::{AllocError, Global};
 use std::marker::Model;
 
-/// A sink that grows with what it takes. It fails only where memory is wanting.
+/// A sink that grows with what it takes. A write fails where it finds no memory; no clause says that it does only there.
 #[derive(Drop)]
 pub struct VecSink {
     bytes: Vec<u8>,
