@@ -5,6 +5,7 @@
 
 mod cut;
 mod decimal;
+mod digits;
 mod front;
 mod place;
 mod refusal;
@@ -15,6 +16,7 @@ mod whole;
 
 pub use cut::{before, first_char, text_after};
 pub use decimal::read_decimal;
+pub use digits::split_digits;
 pub use front::after;
 pub use place::{Pos, place_after};
 pub use refusal::{Arena, Counted, Fault, Refusal, Rule};

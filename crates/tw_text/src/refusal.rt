@@ -3,7 +3,7 @@ use bumpalo::Bump;
 use std::alloc::Global;
 use thiserror::Error;
 
-/// The arena of syntax trees, types, names and wire code. It is owned outside of all that borrows from it.
+/// The arena of syntax trees, types and names. It is owned outside of all that borrows from it.
 pub type Arena = Bump<Global>;
 
 /// What a limit counts.

@@ -1,11 +1,12 @@
-use crate::{Counted, Pos, Refusal, Rule, after, place_after, read_decimal};
+use crate::{Counted, Pos, Refusal, Rule, after, place_after, read_decimal, split_digits};
 
 #[test]
 fn reads_decimals(rt: HostRuntime) {
-    let table: [(&[u8], Option<(u64, usize)>); 11] = [
+    let table: [(&[u8], Option<(u64, usize)>); 13] = [
         (b"", None),
         (b"x7", None),
         (b"0", Some((0, 1))),
+        (b"0;", Some((0, 1))),
         (b"00", None),
         (b"01", None),
         (b"7x", Some((7, 1))),
@@ -16,10 +17,23 @@ fn reads_decimals(rt: HostRuntime) {
             Some((18_446_744_073_709_551_615, 20)),
         ),
         (b"18446744073709551616", None),
+        (b"99999999999999999999", None),
         (b"100000000000000000000000000000000000000000", None),
     ];
     for (bytes, want) in table {
         assert_eq!(rt; read_decimal(bytes), want);
+    }
+}
+
+#[test]
+fn splits_digits_from_what_follows(rt: HostRuntime) {
+    let table: [(&[u8], &[u8], &[u8]); 3] = [
+        (b"", b"", b""),
+        (b"x7", b"", b"x7"),
+        (b"007 8", b"007", b" 8"),
+    ];
+    for (bytes, digits, behind) in table {
+        assert_eq!(rt; split_digits(bytes), (digits, behind));
     }
 }
 

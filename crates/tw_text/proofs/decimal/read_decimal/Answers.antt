@@ -1,15 +1,25 @@
-use Rattle.std.proofs.Common.{◌∙◌, sym}
-use Rattle.tw_text.proofs.Decimals.{no_parse, no_utf8, no_print}
+use Rattle.std.proofs.Common.{rules, ◌≡◌, ◌<◌, ◌∙◌, sym, length, get_or, arith}
+use Rattle.tw_text.specs.Digits.{digit_run}
+use Rattle.tw_text.proofs.Decimals.{run_decimal, not_too_large, not_empty, no_leading_zero}
 use Rattle.tw_text.proofs.decimal.read_decimal.Goals as goal
+use Rattle.tw_text.proofs.decimal.read_decimal.Goals.{else-used-gt1-via-then-used-gt1+else-bytes-eq48, else-used-gt1-via-else-used-gt1}
 
-pub returns-in_default-clause-none : goal.returns-in_default-clause-none
-returns-in_default-clause-none c n small e = no_utf8 c.digit_run-run.result.now c.in_default.ensures.cases.0 n small (c.digit_run-run.ensures ∙ e)
+pub returns-in_err-number-clause-none : goal.returns-in_err-number-clause-none
+returns-in_err-number-clause-none c = rw c.from_residual.ensures (not_too_large _ c.in_err-number.ensures.none)
 
-pub returns-in_default-parse-clause-none : goal.returns-in_default-parse-clause-none
-returns-in_default-parse-clause-none c n small e =
-    no_parse c.in-Ok.text.now c.parse.result _ c.parse.ensures.value.0 c.in_default-parse.is n small (c.in-Ok.ensures.cases.0 ∙ c.digit_run-run.ensures ∙ e)
+pub returns-then-used-eq0-clause-none : goal.returns-then-used-eq0-clause-none
+returns-then-used-eq0-clause-none c = not_empty _ (sym c.if-used-eq0.true ∙ c.in_ok-number.ensures.used)
 
-pub returns-else-eq-clause-none : goal.returns-else-eq-clause-none
-returns-else-eq-clause-none c n small e =
-    let other = rw c.format.ensures.text at (sym c.eq.ensures ∙ c.if-eq.false) in
-    no_print c.in-Ok.text.now c.parse.result c.in-Ok-parse.value c.parse.ensures.value.0 c.in-Ok-parse.is other n small (c.in-Ok.ensures.cases.0 ∙ c.digit_run-run.ensures ∙ e)
+pub returns-then-bytes-eq48-clause-none : goal.returns-then-bytes-eq48-clause-none
+returns-then-bytes-eq48-clause-none c = no_leading_zero c.args.bytes.now (omega (arith, c.if-used-gt1.true, c.in_ok-number.ensures.used)) c.if-bytes-eq48.true
+
+pub returns-clause-some : goal.returns-clause-some
+returns-clause-some c =
+    let found = c.in_ok-number.ensures in
+    let run = digit_run c.args.bytes.now in
+    let some : 0 < length run = omega (arith, c.if-used-eq0.false, found.used) in
+    let lead : get_or c.args.bytes.now 0 0 ≡ 48 → length run ≡ 1 = elim c.else-used-gt1.branch [
+      | else-used-gt1-via-then-used-gt1+else-bytes-eq48 w ↦ (λ zero. absurd (w.if-bytes-eq48.false zero))
+      | else-used-gt1-via-else-used-gt1 w ↦ (λ zero. omega (arith, some, w.if-used-gt1.false, found.used))
+    ] in
+    (run_decimal c.args.bytes.now _ found.value (search rules) some lead, found.used)
