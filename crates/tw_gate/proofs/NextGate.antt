@@ -4,10 +4,10 @@ use Rattle.std.proofs.lemmas.List.{drop_more}
 use Rattle.std.proofs.lemmas.Option.{slice_get_within, get_or_from_slice_get}
 use Rattle.tw_gate.specs.Gates.{PlainGate, act_gate, act}
 
--- the gate at a place, and those behind it
-drop_at : (list : List PlainGate) (place : ℕ) (gate : PlainGate) → slice_get list place ≡ Some gate → drop place list ≡ gate ∷ drop (place + 1) list
-drop_at list place gate is =
-    drop_more list place gate (slice_get_within list place gate is) ∙ ap (λ g. g ∷ drop (place + 1) list) (get_or_from_slice_get list place gate gate is)
+-- the item at a place, and those behind it
+pub drop_at : {A : Type 0} (list : List A) (place : ℕ) (item : A) → slice_get list place ≡ Some item → drop place list ≡ item ∷ drop (place + 1) list
+drop_at list place item is =
+    drop_more list place item (slice_get_within list place item is) ∙ ap (λ i. i ∷ drop (place + 1) list) (get_or_from_slice_get list place item item is)
 
 -- what the rest does to the bits after this gate is what it does with this gate in front
 pub act-next : (list : List PlainGate) (place : ℕ) (gate : PlainGate) (bits after end : List Bool) → slice_get list place ≡ Some gate → after ≡ act_gate gate bits → act (drop place list) bits ≡ end →

@@ -1,5 +1,5 @@
 -- The numbers of a valid file are below 2 ^ 64, so its text tells it.
-use Rattle.std.proofs.Common.{◌≡◌, ℕ, zero, suc, ◌<◌, ◌≤◌, ◌*◌, List, [], ◌∷◌, ◌++◌, length, arith}
+use Rattle.std.proofs.Common.{◌≡◌, ℕ, zero, suc, ◌<◌, ◌≤◌, ◌*◌, ◌^◌, List, [], ◌∷◌, ◌++◌, length, arith}
 use Rattle.std.specs.List.{AllByRecursion}
 use Rattle.tw_gate.specs.Gates.{PlainGate, X, H, T, Tdg}
 use Rattle.tw_gate.specs.Weight.{weight, gate_weight, t_count}
@@ -7,7 +7,8 @@ use Rattle.tw_gate.specs.declared.gate.Level.{Level}
 use Rattle.tw_gate.specs.declared.gate.Level.TheVariants as levels
 use Rattle.tw_gatetext.specs.Text.{File, file_text, HasFewControls}
 use Rattle.tw_gatetext.specs.Valid.{FitsLevel, FitsWires, IsValid}
-use Rattle.tw_gatetext.proofs.Delimited.{Small}
+use Rattle.tw_gatetext.specs.LineWords.{numbers_of}
+use Rattle.tw_gatetext.proofs.Lists.{all_push}
 use Rattle.tw_gatetext.proofs.OneToOne.{HasSmallHeader, HasSmallNumbers, file_text-delimited}
 
 pub HasFewControls-fits : (level : Level) (gate : PlainGate) → FitsLevel level gate → HasFewControls gate
@@ -26,44 +27,47 @@ weight-le zero few = omega arith
 weight-le (suc zero) few = omega arith
 weight-le (suc (suc controls)) few = omega arith
 
-gate_weight-le : (gate : PlainGate) → HasFewControls gate → gate_weight gate ≤ 875
+pub gate_weight-le : (gate : PlainGate) → HasFewControls gate → gate_weight gate ≤ 875
 gate_weight-le (X controls target) few = weight-le (length controls) few
 gate_weight-le (H wire) few = omega arith
 gate_weight-le (T wire) few = omega arith
 gate_weight-le (Tdg wire) few = omega arith
 
-t_count-le : (level : Level) (gates : List PlainGate) → AllByRecursion (FitsLevel level) gates → t_count gates ≤ 875 * length gates
+pub t_count-le : (level : Level) (gates : List PlainGate) → AllByRecursion (FitsLevel level) gates → t_count gates ≤ 875 * length gates
 t_count-le level [] fit = omega arith
 t_count-le level (gate ∷ gates) fit =
     omega (arith, gate_weight-le gate (HasFewControls-fits level gate fit.0), t_count-le level gates fit.1)
 
-small_all : (wires : ℕ) (ns : List ℕ) → wires ≤ 1048576 → AllByRecursion (λ n. n < wires) ns → AllByRecursion Small ns
-small_all wires [] few below = tt
-small_all wires (n ∷ ns) few below = (omega (arith, below.0), small_all wires ns few below.1)
+all_below : (bound wires : ℕ) (ns : List ℕ) → wires ≤ bound → AllByRecursion (λ n. n < wires) ns → AllByRecursion (λ n. n < bound) ns
+all_below bound wires [] few below = tt
+all_below bound wires (n ∷ ns) few below = (omega (arith, below.0), all_below bound wires ns few below.1)
 
-small_push : (ns : List ℕ) (n : ℕ) → AllByRecursion Small ns → Small n → AllByRecursion Small (ns ++ n ∷ [])
-small_push [] n small last = (last, tt)
-small_push (m ∷ ns) n small last = (small.0, small_push ns n small.1 last)
+x_below : (bound : ℕ) (controls : List ℕ) (target : ℕ) → 65 ≤ bound → length controls ≤ 64 → AllByRecursion (λ n. n < bound) (controls ++ target ∷ [])
+    → AllByRecursion (λ n. n < bound) (numbers_of (X controls target))
+x_below bound [] target room few below = below
+x_below bound (a ∷ []) target room few below = below
+x_below bound (a ∷ b ∷ []) target room few below = below
+x_below bound (a ∷ b ∷ c ∷ rest) target room few below = (omega arith, below)
 
-small_x : (controls : List ℕ) (target : ℕ) → length controls ≤ 64 → AllByRecursion Small (controls ++ target ∷ []) → HasSmallNumbers (X controls target)
-small_x [] target few small = small
-small_x (a ∷ []) target few small = small
-small_x (a ∷ b ∷ []) target few small = small
-small_x (a ∷ b ∷ c ∷ rest) target few small = (omega arith, small)
+-- the numbers of a gate that fits are below the bound of its wires
+pub numbers_below : (bound : ℕ) (level : Level) (wires : ℕ) (gate : PlainGate) → 65 ≤ bound → wires ≤ bound → FitsLevel level gate → FitsWires wires gate
+    → AllByRecursion (λ n. n < bound) (numbers_of gate)
+numbers_below bound level wires (X controls target) room few level_fits fits =
+    x_below bound controls target room (HasFewControls-fits level (X controls target) level_fits)
+    (all_push (λ n. n < bound) controls target (all_below bound wires controls few fits.2) (omega (arith, fits.3)))
+numbers_below bound level wires (H wire) room few level_fits fits = (omega arith, tt)
+numbers_below bound level wires (T wire) room few level_fits fits = (omega arith, tt)
+numbers_below bound level wires (Tdg wire) room few level_fits fits = (omega arith, tt)
 
-small_numbers : (level : Level) (wires : ℕ) (gate : PlainGate) → wires ≤ 1048576 → FitsLevel level gate → FitsWires wires gate → HasSmallNumbers gate
-small_numbers level wires (X controls target) few level_fits fits =
-    small_x controls target (HasFewControls-fits level (X controls target) level_fits) (small_push controls target (small_all wires controls few fits.2) (omega (arith, fits.3)))
-small_numbers level wires (H wire) few level_fits fits = (omega arith, tt)
-small_numbers level wires (T wire) few level_fits fits = (omega arith, tt)
-small_numbers level wires (Tdg wire) few level_fits fits = (omega arith, tt)
+pub small_numbers : (level : Level) (wires : ℕ) (gate : PlainGate) → wires ≤ 1048576 → FitsLevel level gate → FitsWires wires gate → HasSmallNumbers gate
+small_numbers level wires gate few level_fits fits = numbers_below (2 ^ 64) level wires gate (omega arith) (omega arith) level_fits fits
 
 small_gates : (level : Level) (wires : ℕ) (gates : List PlainGate) → wires ≤ 1048576 → AllByRecursion (FitsLevel level) gates → AllByRecursion (FitsWires wires) gates → AllByRecursion HasSmallNumbers gates
 small_gates level wires [] few level_fits fits = tt
 small_gates level wires (gate ∷ gates) few level_fits fits =
     (small_numbers level wires gate few level_fits.0 fits.0, small_gates level wires gates few level_fits.1 fits.1)
 
-small_header : (file : File) → IsValid file → HasSmallHeader file
+pub small_header : (file : File) → IsValid file → HasSmallHeader file
 small_header file valid = record {
   wires = omega (arith, valid.few_wires);
   gates = omega (arith, valid.few_gates);

@@ -23,13 +23,13 @@ word-delimited c (a ∷ word) (b ∷ other) xs ys lacks lacks' e =
     (cc, behind.1)
 
 -- what stands behind a number begins with a byte that is no digit
-record Ends (text : List ℕ) : Type 0 where
-  first : ℕ
-  rest : List ℕ
-  is : text ≡ first ∷ rest
-  no_digit : is_ascii_digit first ≡ false
+pub record Ends (text : List ℕ) : Type 0 where
+  pub first : ℕ
+  pub rest : List ℕ
+  pub is : text ≡ first ∷ rest
+  pub no_digit : is_ascii_digit first ≡ false
 
-ends : (numbers xs : List ℕ) → Ends (spaced numbers ++ (codes "\n" ++ xs))
+pub ends : (numbers xs : List ℕ) → Ends (spaced numbers ++ (codes "\n" ++ xs))
 ends [] xs = record { first = 10; rest = xs; is = refl; no_digit = refl }
 ends (n ∷ numbers) xs = record { first = 32; rest = _; is = refl; no_digit = refl }
 

@@ -10,15 +10,22 @@ use Rattle.tw_io.proofs.Devices.{wrote_then, wrote_front, wrote_none, appends_no
 use Rattle.tw_gate.specs.declared.gate.Gate.{Gate}
 use Rattle.tw_gate.specs.Gates.{PlainGate, X, H, T, Tdg, plain, inverse, inverse_gate, directed}
 use Rattle.tw_gate.proofs.Inverse.{inverse-append, length-inverse}
+use Rattle.tw_gatetext.specs.declared.file.GateFile.{GateFile}
+use Rattle.tw_gatetext.specs.Files.{plain_file}
 use Rattle.tw_gatetext.specs.Text.{x_words, spaced, line, lines, header, last_line, file_text, HasFewControls}
+
+-- what holds of all of a list and of one more element holds of both
+pub all_push : {X : Type 0} (P : X → Type 0) (xs : List X) (x : X) → AllByRecursion P xs → P x → AllByRecursion P (xs ++ x ∷ [])
+all_push P [] x all last = (last, tt)
+all_push P (y ∷ xs) x all last = (all.0, all_push P xs x all.1 last)
 
 pub spaced-append : (xs ys : List ℕ) → spaced (xs ++ ys) ≡ spaced xs ++ spaced ys
 spaced-append [] ys = refl
 spaced-append (x ∷ xs) ys = rw (spaced-append xs ys) (simp append_assoc)
 
--- the bytes that the line of an X gate is put together from
-pub x_line-pushed : (controls : List ℕ) (target : ℕ) (begun all : List ℕ) → begun ≡ x_words (length controls) ++ spaced controls → all ≡ (begun ++ (codes " " ++ decimal target)) ++ codes "\n" → all ≡ line (X controls target)
-x_line-pushed controls target begun all words pushed = pushed ∙ rw (words, spaced-append controls (target ∷ [])) (simp (append_assoc, append-nil))
+-- the bytes that the line of an X gate is put together from, behind those that stood there
+pub x_line-pushed : (controls : List ℕ) (target : ℕ) (start begun all : List ℕ) → begun ≡ start ++ (x_words (length controls) ++ spaced controls) → all ≡ (begun ++ (codes " " ++ decimal target)) ++ codes "\n" → all ≡ start ++ line (X controls target)
+x_line-pushed controls target start begun all words pushed = pushed ∙ rw (words, spaced-append controls (target ∷ [])) (simp (append_assoc, append-nil))
 
 -- the first of some gates was written whole; then whatever became of the others became of all
 pub gate_then : {K : Type 0} (taken : K → Option (List ℕ)) (faults : K → ℕ) (a b c : K) (result : Result (Unit {0}) WriteFault) (gates : List PlainGate) (first : PlainGate) (others : List PlainGate) → gates ≡ first ∷ others
@@ -62,3 +69,8 @@ pub file_text-pieces : (level : Level) (wires t_count : ℕ) (back : Bool) (gate
     ≡ header level wires (length gates) t_count ++ (lines (directed back (map plain gates)) ++ last_line)
 unfolding file_text
 file_text-pieces level wires t_count back gates = rw (length-directed back gates)
+
+-- the pieces of the text of a file in memory, whose gates are counted first
+pub listed_file_text : (file : GateFile) (count : ℕ) → count ≡ length file.gates → file_text (plain_file file) ≡ header file.level file.wires count file.t_count ++ (lines file.gates ++ last_line)
+unfolding file_text
+listed_file_text file count counted = rw counted refl

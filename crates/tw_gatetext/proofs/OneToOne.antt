@@ -7,29 +7,10 @@ use Rattle.tw_gate.specs.declared.gate.Level.{Level}
 use Rattle.tw_gate.specs.declared.gate.Level.TheVariants as levels
 use Rattle.std.proofs.lemmas.List.{append_cancel_left}
 use Rattle.tw_gatetext.specs.Text.{File, x_words, spaced, line, lines, level_word, header, last_line, file_text}
+use Rattle.tw_gatetext.specs.LineWords.{letters, numbers_of}
 use Rattle.tw_gatetext.proofs.Delimited.{Lacks, Small, word-delimited, decimal_line-delimited, numbers-delimited}
 
--- the letters that begin a gate's line
-abbrev letters : PlainGate → List ℕ
-letters (X [] target) = codes "x"
-letters (X (a ∷ []) target) = codes "cx"
-letters (X (a ∷ b ∷ []) target) = codes "ccx"
-letters (X (a ∷ b ∷ c ∷ rest) target) = codes "mcx"
-letters (H wire) = codes "h"
-letters (T wire) = codes "t"
-letters (Tdg wire) = codes "tdg"
-
--- the numbers that follow them
-abbrev numbers : PlainGate → List ℕ
-numbers (X [] target) = target ∷ []
-numbers (X (a ∷ []) target) = a ∷ target ∷ []
-numbers (X (a ∷ b ∷ []) target) = a ∷ b ∷ target ∷ []
-numbers (X (a ∷ b ∷ c ∷ rest) target) = length (a ∷ b ∷ c ∷ rest) ∷ a ∷ b ∷ c ∷ (rest ++ target ∷ [])
-numbers (H wire) = wire ∷ []
-numbers (T wire) = wire ∷ []
-numbers (Tdg wire) = wire ∷ []
-
-line-letters : (gate : PlainGate) (xs : List ℕ) → line gate ++ xs ≡ letters gate ++ (spaced (numbers gate) ++ (codes "\n" ++ xs))
+pub line-letters : (gate : PlainGate) (xs : List ℕ) → line gate ++ xs ≡ letters gate ++ (spaced (numbers_of gate) ++ (codes "\n" ++ xs))
 line-letters (X [] target) xs = simp append_assoc
 line-letters (X (a ∷ []) target) xs = simp append_assoc
 line-letters (X (a ∷ b ∷ []) target) xs = simp append_assoc
@@ -81,7 +62,7 @@ gate_of word ns =
     else if bytes_eq word (codes "mcx") then x_gate (without_first ns)
     else x_gate ns
 
-gate_of-letters : (gate : PlainGate) → gate_of (letters gate) (numbers gate) ≡ gate
+gate_of-letters : (gate : PlainGate) → gate_of (letters gate) (numbers_of gate) ≡ gate
 gate_of-letters (X [] target) = refl
 gate_of-letters (X (a ∷ []) target) = refl
 gate_of-letters (X (a ∷ b ∷ []) target) = refl
@@ -90,8 +71,12 @@ gate_of-letters (H wire) = refl
 gate_of-letters (T wire) = refl
 gate_of-letters (Tdg wire) = refl
 
+-- the letters and the numbers of a line tell its gate
+pub gate-told : (gate other : PlainGate) → letters gate ≡ letters other → numbers_of gate ≡ numbers_of other → gate ≡ other
+gate-told gate other word numbers = sym (gate_of-letters gate) ∙ rw (word, numbers) (gate_of-letters other)
+
 -- the numbers begin with a space
-spaces : (gate : PlainGate) (xs : List ℕ) → (rest : List ℕ) × (spaced (numbers gate) ++ xs ≡ 32 ∷ rest)
+spaces : (gate : PlainGate) (xs : List ℕ) → (rest : List ℕ) × (spaced (numbers_of gate) ++ xs ≡ 32 ∷ rest)
 spaces (X [] target) xs = (_, refl)
 spaces (X (a ∷ []) target) xs = (_, refl)
 spaces (X (a ∷ b ∷ []) target) xs = (_, refl)
@@ -102,7 +87,7 @@ spaces (Tdg wire) xs = (_, refl)
 
 -- the numbers of the gate's line are below 2 ^ 64
 abbrev pub HasSmallNumbers : PlainGate → Type 0
-HasSmallNumbers gate = AllByRecursion Small (numbers gate)
+HasSmallNumbers gate = AllByRecursion Small (numbers_of gate)
 
 pub line-delimited : (gate other : PlainGate) (xs ys : List ℕ) → HasSmallNumbers gate → HasSmallNumbers other → line gate ++ xs ≡ line other ++ ys → (gate ≡ other) × (xs ≡ ys)
 line-delimited gate other xs ys small small' e =
@@ -110,8 +95,8 @@ line-delimited gate other xs ys small small' e =
     let behind' = spaces other (codes "\n" ++ ys) in
     let nested = sym (line-letters gate xs) ∙ e ∙ line-letters other ys in
     let words = word-delimited 32 (letters gate) (letters other) behind.0 behind'.0 (letters-lack gate) (letters-lack other) (rw (← behind.1, ← behind'.1) nested) in
-    let rest = numbers-delimited (numbers gate) (numbers other) xs ys small small' (behind.1 ∙ ap (λ t. 32 ∷ t) words.1 ∙ sym behind'.1) in
-    (sym (gate_of-letters gate) ∙ rw (words.0, rest.0) (gate_of-letters other), rest.1)
+    let rest = numbers-delimited (numbers_of gate) (numbers_of other) xs ys small small' (behind.1 ∙ ap (λ t. 32 ∷ t) words.1 ∙ sym behind'.1) in
+    (gate-told gate other words.0 rest.0, rest.1)
 
 pub lines-delimited : (gates others : List PlainGate) (xs ys : List ℕ) → AllByRecursion HasSmallNumbers gates → AllByRecursion HasSmallNumbers others → length gates ≡ length others → lines gates ++ xs ≡ lines others ++ ys → (gates ≡ others) × (xs ≡ ys)
 lines-delimited [] [] xs ys small small' count e = (refl, e)
@@ -139,12 +124,12 @@ level_word-lacks levels.Mcx = (refl, (refl, (refl, tt)))
 level_word-lacks levels.Tof = (refl, (refl, (refl, tt)))
 level_word-lacks levels.T = (refl, tt)
 
-level-delimited : (level other : Level) (xs ys : List ℕ) → level_word level ++ (codes "\n" ++ xs) ≡ level_word other ++ (codes "\n" ++ ys) → (level ≡ other) × (xs ≡ ys)
+pub level-delimited : (level other : Level) (xs ys : List ℕ) → level_word level ++ (codes "\n" ++ xs) ≡ level_word other ++ (codes "\n" ++ ys) → (level ≡ other) × (xs ≡ ys)
 level-delimited level other xs ys e =
     let both = word-delimited 10 (level_word level) (level_word other) xs ys (level_word-lacks level) (level_word-lacks other) e in
     (sym (level_of-word level) ∙ rw both.0 (level_of-word other), both.1)
 
-header-nested : (level : Level) (wires gates t_count : ℕ) (xs : List ℕ) → header level wires gates t_count ++ xs
+pub header-nested : (level : Level) (wires gates t_count : ℕ) (xs : List ℕ) → header level wires gates t_count ++ xs
     ≡ codes "tower-gates 1\nlevel " ++ (level_word level ++ (codes "\n" ++ (codes "wires " ++ (decimal wires ++ (codes "\n" ++ (codes "gates " ++ (decimal gates ++ (codes "\n" ++ (codes "t-count " ++ (decimal t_count ++ (codes "\n" ++ xs)))))))))))
 unfolding header
 header-nested level wires gates t_count xs = simp append_assoc

@@ -1,3 +1,9 @@
+pub mod Files
+pub mod LineWords
+pub mod Lines
+pub mod Numerals
+pub mod Reading
+pub mod Refused
 pub mod Taking
 pub mod TakingLaws
 pub mod Text

@@ -1,12 +1,24 @@
-//! Gate files: the text of a file, written to a sink piece by piece, with no memory of its own.
-//! `specs/` says which text a file has and which files are valid; `proofs/` shows that the text tells the file.
+//! Gate files: the text of a file, written to a sink piece by piece with no memory of its own, and read back.
+//! `specs/` says which text a file has, which files are valid, which line may stand where, and how bytes that begin with no
+//! file are refused; `proofs/` shows that the text tells the file.
 #![tactic(auto)]
 
+mod file;
+mod gate_fits;
+mod gate_words;
+mod header;
+mod line_fault;
 mod line_out;
+mod numbers;
 mod pieces;
+#[cfg(test)]
+mod read_tests;
+mod reading;
 #[cfg(test)]
 mod tests;
 mod writing;
 
+pub use file::{GateFault, GateFile};
 pub use line_out::LineOut;
-pub use writing::{write_end, write_file, write_gate, write_gates, write_header};
+pub use reading::read_gates;
+pub use writing::{write_end, write_file, write_gate, write_gate_file, write_gates, write_header};

@@ -42,42 +42,41 @@ fn level_word(level: Level) -> &'static str
     }
 }
 
-/// The line of a gate.
-pub fn line(gate: &Gate) -> Line
-    requires { HasFewControls (plain gate.now) }
-    ensures { result.bytes ≡ line (plain gate.now) }
+/// Appends the line of a gate.
+pub fn push_line(text: &mut Line, gate: &Gate)
+    requires few { HasFewControls (plain gate.now) }
+    requires room { array_string_len text.old ≤ 100 }
+    ensures { text.new.bytes ≡ text.old.bytes ++ line (plain gate.now) }
 {
     match *gate {
-        Gate::X { controls, target } => x_line(controls, target),
-        Gate::H(wire) => wire_line("h", wire),
-        Gate::T(wire) => wire_line("t", wire),
-        Gate::Tdg(wire) => wire_line("tdg", wire),
+        Gate::X { controls, target } => push_x_line(text, controls, target),
+        Gate::H(wire) => push_wire_line(text, "h", wire),
+        Gate::T(wire) => push_wire_line(text, "t", wire),
+        Gate::Tdg(wire) => push_wire_line(text, "tdg", wire),
     }
 }
 
-fn wire_line(word: &str, wire: u32) -> Line
-    requires { length word.now ≤ 3 }
-    ensures { result.bytes ≡ word.now ++ (spaced (wire ∷ []) ++ codes "\n") }
+fn push_wire_line(text: &mut Line, word: &str, wire: u32)
+    requires short { length word.now ≤ 3 }
+    requires room { array_string_len text.old ≤ 100 }
+    ensures { text.new.bytes ≡ text.old.bytes ++ (word.now ++ (spaced (wire ∷ []) ++ codes "\n")) }
 {
-    let mut line = Line::new();
-    line.push_str(word);
-    push_number(&mut line, wire);
-    line.push_str("\n");
-    line
+    text.push_str(word);
+    push_number(text, wire);
+    text.push_str("\n");
 }
 
-fn x_line(controls: &[u32], target: u32) -> Line
-    requires { length controls.now ≤ 64 }
-    ensures { result.bytes ≡ line (X controls.now target) }
+fn push_x_line(text: &mut Line, controls: &[u32], target: u32)
+    requires few { length controls.now ≤ 64 }
+    requires room { array_string_len text.old ≤ 100 }
+    ensures { text.new.bytes ≡ text.old.bytes ++ line (X controls.now target) }
 {
-    let mut line = Line::new();
-    push_x_words(&mut line, controls.len());
+    push_x_words(text, controls.len());
     for control in controls {
-        push_number(&mut line, *control);
+        push_number(text, *control);
     }
-    push_number(&mut line, target);
-    line.push_str("\n");
-    line
+    push_number(text, target);
+    text.push_str("\n");
 }
 
 /// Appends the words that begin the line of an X gate.

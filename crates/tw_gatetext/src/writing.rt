@@ -4,9 +4,11 @@ ghost use Rattle.std.specs.List.{AllByRecursion};
 ghost use Rattle.tw_io.specs.Devices.{Wrote};
 ghost use Rattle.tw_gate.specs.Gates.{plain, directed};
 ghost use Rattle.tw_gatetext.specs.Text.{line, lines, header, last_line, file_text, HasFewControls};
+ghost use Rattle.tw_gatetext.specs.Files.{plain_file};
 
+use crate::file::GateFile;
 use crate::pieces;
-use tw_gate::{Gate, Level};
+use tw_gate::{Gate, GateList, Level};
 use tw_io::{Sink, WriteFault, write_all};
 
 /// Writes the five header lines as one piece: the version, the level, the numbers of wires and of gates, and the T-count.
@@ -32,7 +34,8 @@ pub fn write_gate<K: Sink>(sink: &mut K, gate: &Gate) -> Result<(), WriteFault>
     requires { HasFewControls (plain gate.now) }
     ensures wrote { Wrote K.taken K.faults sink.old sink.new result (line (plain gate.now)) }
 {
-    let text = pieces::line(gate);
+    let mut text = pieces::Line::new();
+    pieces::push_line(&mut text, gate);
     write_all(sink, text.as_str().as_bytes())
 }
 
@@ -101,4 +104,34 @@ pub fn write_file<K: Sink>(
     write_header(sink, level, wires, gates.len() as u64, t_count)?;
     write_gates(sink, gates, inverse)?;
     write_end(sink)
+}
+
+/// Writes the text of a file in memory. Its header counts its gates and gives its T-count as it stands. Each gate has at most 64
+/// controls, and each line is one piece.
+///
+/// At a fault the sink has taken a front of the text.
+pub fn write_gate_file<K: Sink>(sink: &mut K, file: &GateFile) -> Result<(), WriteFault>
+    requires { AllByRecursion HasFewControls file.now.gates }
+    ensures wrote { Wrote K.taken K.faults sink.old sink.new result (file_text (plain_file file.now)) }
+{
+    write_header(
+        sink,
+        file.level,
+        file.wires,
+        file.gates.len() as u64,
+        file.t_count,
+    )?;
+    write_listed(sink, &file.gates)?;
+    write_end(sink)
+}
+
+/// Writes the lines of the gates of a list.
+fn write_listed<K: Sink>(sink: &mut K, gates: &GateList) -> Result<(), WriteFault>
+    requires { AllByRecursion HasFewControls gates.now }
+    ensures wrote { Wrote K.taken K.faults sink.old sink.new result (lines gates.now) }
+{
+    for place in 0..gates.len() {
+        write_gate(sink, &gates.gate(place))?;
+    }
+    Ok(())
 }

@@ -1,0 +1,14 @@
+use Rattle.std.proofs.Common.{codes, refl}
+use Rattle.tw_text.specs.declared.refusal.Counted.TheVariants as counted
+use Rattle.tw_gatetext.specs.Lines.{AtWires}
+use Rattle.tw_gatetext.proofs.HeaderLines.{refused_limited, wires_steps, no_wires}
+use Rattle.tw_gatetext.proofs.header.wires_line.Goals as goal
+
+pub returns-in-Some-clause-right : goal.returns-in-Some-clause-right
+returns-in-Some-clause-right c = λ level.
+    wires_steps level c.in-Some.wires c.args.bytes.now c.in-Some.rest.now c.in-Some.ensures.some.1 c.in-Some.ensures.some.2 c.in-Some.ensures.some.0
+
+pub returns-in-None-clause-refused : goal.returns-in-None-clause-refused
+returns-in-None-clause-refused c = λ level.
+    refused_limited (AtWires level) (record { word = codes "wires "; what = counted.Wires; most = 1048576 }) c.args.bytes.now c.refused_line.result tt refl
+    (no_wires level c.args.bytes.now c.in-None.ensures.none) c.refused_line.ensures

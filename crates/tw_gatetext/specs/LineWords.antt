@@ -1,0 +1,23 @@
+-- A gate line as letters and the numbers behind them.
+use Rattle.std.specs.Prelude.{ℕ, List, [], ◌∷◌, ◌++◌, length, codes}
+use Rattle.tw_gate.specs.Gates.{PlainGate, X, H, T, Tdg}
+
+-- the letters that begin a gate's line
+abbrev pub letters : PlainGate → List ℕ
+letters (X [] target) = codes "x"
+letters (X (a ∷ []) target) = codes "cx"
+letters (X (a ∷ b ∷ []) target) = codes "ccx"
+letters (X (a ∷ b ∷ c ∷ rest) target) = codes "mcx"
+letters (H wire) = codes "h"
+letters (T wire) = codes "t"
+letters (Tdg wire) = codes "tdg"
+
+-- the numbers that follow them
+abbrev pub numbers_of : PlainGate → List ℕ
+numbers_of (X [] target) = target ∷ []
+numbers_of (X (a ∷ []) target) = a ∷ target ∷ []
+numbers_of (X (a ∷ b ∷ []) target) = a ∷ b ∷ target ∷ []
+numbers_of (X (a ∷ b ∷ c ∷ rest) target) = length (a ∷ b ∷ c ∷ rest) ∷ a ∷ b ∷ c ∷ (rest ++ target ∷ [])
+numbers_of (H wire) = wire ∷ []
+numbers_of (T wire) = wire ∷ []
+numbers_of (Tdg wire) = wire ∷ []

@@ -1,0 +1,35 @@
+-- Numbers as gate files write them, also those above the greatest number of 64 bits.
+use Rattle.std.proofs.Common.{arith}
+use Rattle.std.specs.Prelude.{◌≡◌, ◌≢◌, ℕ, ◌<◌, ◌-◌, ◌^◌, List, [], ◌∷◌, decimal, codes, refl}
+use Rattle.std.specs.Fmt.{digits}
+use Rattle.tw_text.specs.Digits.{digit_run}
+
+-- a digit stands first, and it is not 0
+abbrev pub LeadsWithoutZero : List ℕ → Type 0
+LeadsWithoutZero [] = ⊥
+LeadsWithoutZero (digit ∷ digits) = digit ≢ 48
+
+-- a run of digits without leading zero that writes no number of 64 bits, but a larger one
+pub record IsLarger (run : List ℕ) : Type 0 where
+  pub leads : LeadsWithoutZero run
+  pub no_word : (n : ℕ) → n < 2 ^ 64 → run ≢ decimal n
+
+-- The number that the digits at the front of a text write, without leading zero; the greatest one of 64 bits stands for all
+-- that are larger.
+pub data Shows (text : List ℕ) (number : ℕ) : Type 0 where
+  Word : number < 2 ^ 64 → digit_run text ≡ decimal number → Shows text number
+  Larger : IsLarger (digit_run text) → number ≡ 2 ^ 64 - 1 → Shows text number
+
+-- the text is a number of any size, and no more
+pub record IsNumeral (text : List ℕ) : Type 0 where
+  pub number : ℕ
+  pub shows : Shows text number
+  pub whole : digit_run text ≡ text
+
+pub Shows-front : Shows (codes "1048577 junk") 1048577
+unfolding digits
+Shows-front = Word (omega arith) refl
+
+-- a leading zero stands before a further digit
+pub LeadsWithoutZero-zero : LeadsWithoutZero (codes "07") → ⊥
+LeadsWithoutZero-zero leads = leads refl

@@ -1,0 +1,138 @@
+//! Gate lines as a word and numbers, and the gates that these tell.
+ghost use Rattle.std.specs.Prelude.{◌≡◌, ◌≢◌, ℕ, ◌<◌, ◌≤◌, ◌^◌, ◌++◌, [], ◌∷◌, List, length, codes, decimal, IfSome};
+ghost use Rattle.std.specs.Option.{IfNone};
+ghost use Rattle.std.specs.List.{AllByRecursion};
+ghost use Rattle.tw_gate.specs.Gates.{PlainGate, plain, X};
+ghost use Rattle.tw_gatetext.specs.Text.{spaced};
+ghost use Rattle.tw_gatetext.specs.LineWords.{letters, numbers_of};
+ghost use Rattle.tw_gatetext.specs.Reading.{HasNoSpace, AreLineNumbers, IsLineOf};
+
+use crate::numbers::number_at;
+use arrayvec::ArrayVec;
+use tw_gate::Gate;
+use tw_text::after;
+
+/// The numbers of a line: at most a number of controls, 64 controls and a target.
+pub type Numbers = ArrayVec<u32, 66>;
+
+/// A gate line: its letters, its numbers, and what follows the line.
+#[derive(Drop)]
+pub struct LineWords<'b> {
+    pub letters: &'b [u8],
+    pub numbers: Numbers,
+    pub rest: &'b [u8],
+}
+
+/// The letters up to the first space, and the rest from that space on.
+fn word_at(bytes: &[u8]) -> Option<(&[u8], &[u8])>
+    ensures some { IfSome result (λ found. HasNoSpace found.0.now × (bytes.now ≡ found.0.now ++ found.1.now)) }
+    ensures space { IfSome result (λ found. (rest : List ℕ) × (found.1.now ≡ codes " " ++ rest)) }
+    ensures none { IfNone result (HasNoSpace bytes.now) }
+{
+    let end = bytes.iter().position(|byte| *byte == b' ')?;
+    Some((&bytes[..end], &bytes[end..]))
+}
+
+/// The number behind a space, and what follows it.
+fn spaced_number(bytes: &[u8]) -> Option<(u32, &[u8])>
+    ensures some { IfSome result (λ found. bytes.now ≡ codes " " ++ (decimal found.0 ++ found.1.now)) }
+    ensures only { IfSome result (λ found. (n : ℕ) (ns rest : List ℕ) → n < 2 ^ 32 → bytes.now ≡ spaced (n ∷ ns) ++ (codes "\n" ++ rest) → (n ≡ found.0) × (found.1.now ≡ spaced ns ++ (codes "\n" ++ rest))) }
+    ensures none { IfNone result ((n : ℕ) (ns rest : List ℕ) → n < 2 ^ 32 → ¬ (bytes.now ≡ spaced (n ∷ ns) ++ (codes "\n" ++ rest))) }
+{
+    let (number, rest) = number_at(after(bytes, b" ")?)?;
+    Some((u32::try_from(number).ok()?, rest))
+}
+
+/// The numbers up to the end of the line, each behind a space, and what follows the line.
+fn spaced_numbers(bytes: &[u8]) -> Option<(Numbers, &[u8])>
+    ensures some { IfSome result (λ found. bytes.now ≡ spaced found.0.items ++ (codes "\n" ++ found.1.now)) }
+    ensures few { IfSome result (λ found. length found.0.items ≤ 66) }
+    ensures small { IfSome result (λ found. AllByRecursion (λ n. n < 2 ^ 32) found.0.items) }
+    ensures none { IfNone result ((ns rest : List ℕ) → length ns ≤ 66 → AllByRecursion (λ n. n < 2 ^ 32) ns → ¬ (bytes.now ≡ spaced ns ++ (codes "\n" ++ rest))) }
+{
+    let mut numbers = Numbers::new();
+    let mut rest = bytes;
+    while !numbers.is_full() {
+        if let Some(behind) = after(rest, b"\n") {
+            return Some((numbers, behind));
+        }
+        let (number, behind) = spaced_number(rest)?;
+        numbers.push(number);
+        rest = behind;
+    }
+    let behind = after(rest, b"\n")?;
+    Some((numbers, behind))
+}
+
+/// The gate line at the front, as letters and numbers.
+pub fn line_words(bytes: &[u8]) -> Option<LineWords<'_>>
+    ensures some { IfSome result (λ words. HasNoSpace words.letters.now × IsLineOf bytes.now words.letters.now words.numbers.items words.rest.now) }
+    ensures numbers { IfSome result (λ words. AreLineNumbers words.numbers.items) }
+    ensures none { IfNone result ((word ns rest : List ℕ) → HasNoSpace word → AreLineNumbers ns → ¬ IsLineOf bytes.now word ns rest) }
+{
+    let (letters, behind) = word_at(bytes)?;
+    let (numbers, rest) = spaced_numbers(behind)?;
+    Some(LineWords {
+        letters,
+        numbers,
+        rest,
+    })
+}
+
+/// The X gate of so many controls whose wires these are, the target last.
+fn x_gate(wires: &[u32], controls: usize) -> Option<Gate<'_>>
+    ensures some { IfSome result (λ gate. (others : List ℕ) × (target : ℕ) × (plain gate ≡ X others target) × (length others ≡ controls) × (wires.now ≡ others ++ target ∷ [])) }
+    ensures none { IfNone result ((others : List ℕ) (target : ℕ) → length others ≡ controls → ¬ (wires.now ≡ others ++ target ∷ [])) }
+{
+    let (target, others) = wires.split_last()?;
+    if others.len() == controls {
+        Some(Gate::X {
+            controls: others,
+            target: *target,
+        })
+    } else {
+        None
+    }
+}
+
+/// The gate of this word and these numbers.
+pub fn gate_of<'n>(word: &[u8], numbers: &'n [u32]) -> Option<Gate<'n>>
+    ensures some { IfSome result (λ gate. (word.now ≡ letters (plain gate)) × (numbers.now ≡ numbers_of (plain gate))) }
+    ensures none { IfNone result ((gate : PlainGate) → word.now ≡ letters gate → ¬ (numbers.now ≡ numbers_of gate)) }
+{
+    match word {
+        b"x" => x_gate(numbers, 0),
+        b"cx" => x_gate(numbers, 1),
+        b"ccx" => x_gate(numbers, 2),
+        b"mcx" => many_controls(numbers),
+        _ => one_wire(word, numbers),
+    }
+}
+
+/// The X gate of three or more controls, of which the first number says how many there are.
+fn many_controls(numbers: &[u32]) -> Option<Gate<'_>>
+    ensures some { IfSome result (λ gate. (others : List ℕ) × (target : ℕ) × (plain gate ≡ X others target) × (3 ≤ length others) × (numbers.now ≡ length others ∷ (others ++ target ∷ []))) }
+    ensures none { IfNone result ((others : List ℕ) (target : ℕ) → 3 ≤ length others → ¬ (numbers.now ≡ length others ∷ (others ++ target ∷ []))) }
+{
+    let (controls, wires) = numbers.split_first()?;
+    if *controls < 3 {
+        return None;
+    }
+    x_gate(wires, *controls as usize)
+}
+
+/// The gate on one wire of this word.
+fn one_wire<'n>(word: &[u8], numbers: &[u32]) -> Option<Gate<'n>>
+    ensures some { IfSome result (λ gate. (word.now ≡ letters (plain gate)) × (numbers.now ≡ numbers_of (plain gate))) }
+    ensures none { IfNone result ((wire : ℕ) → numbers.now ≡ wire ∷ [] → (word.now ≢ codes "h") × (word.now ≢ codes "t") × (word.now ≢ codes "tdg")) }
+{
+    let [wire] = numbers else {
+        return None;
+    };
+    match word {
+        b"h" => Some(Gate::H(*wire)),
+        b"t" => Some(Gate::T(*wire)),
+        b"tdg" => Some(Gate::Tdg(*wire)),
+        _ => None,
+    }
+}

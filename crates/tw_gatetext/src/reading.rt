@@ -1,0 +1,169 @@
+//! Reading gate files.
+ghost use Rattle.std.specs.Prelude.{◌≡◌, ◌≢◌, ◌⊎◌, ◌<◌, ◌≤◌, ◌+◌, ◌++◌, [], ◌∷◌, List, ℕ, Err, drop, length, IfSome, IfOk, IfErr};
+ghost use Rattle.std.specs.Option.{IfNone};
+ghost use Rattle.tw_gate.specs.Gates.{PlainGate, plain};
+ghost use Rattle.tw_gate.specs.Weight.{gate_weight, t_count};
+ghost use Rattle.tw_gatetext.specs.Text.{File, file_text, HasFewControls};
+ghost use Rattle.tw_gatetext.specs.Valid.{FitsLevel, FitsWires};
+ghost use Rattle.tw_gatetext.specs.LineWords.{letters, numbers_of};
+ghost use Rattle.tw_gatetext.specs.Lines.{Progress, InBody, Whole, Head, StepsTo, Reaches};
+ghost use Rattle.tw_gatetext.specs.Reading.{head_seen, IsRefusedLine};
+ghost use Rattle.tw_gatetext.specs.Files.{plain_file, BeginsWith};
+ghost use Rattle.tw_gatetext.specs.Refused.{IsWrong, IsRefusedText};
+ghost use Rattle.tw_gatetext.specs.declared.file.GateFault.{GateFault};
+ghost use Rattle.tw_gatetext.specs.declared.file.GateFault.TheVariants as fault;
+ghost use Rattle.tw_gatetext.specs.declared.line_fault.LineFault.TheVariants as line_fault;
+
+use crate::file::{GateFault, GateFile};
+use crate::gate_fits::{fits_level, fits_wires};
+use crate::gate_words::{LineWords, gate_of, line_words};
+use crate::header::{Header, read_header};
+use crate::line_fault::{LineFault, NumberLimit, refused_line};
+use itoa::Buffer;
+use std::alloc::Global;
+use tw_gate::{Gate, GateList, Level};
+use tw_text::{Counted, after};
+
+/// The limit on the controls of a gate.
+const CONTROLS: NumberLimit = NumberLimit {
+    word: b"mcx ",
+    what: Counted::Controls,
+    most: 64,
+};
+
+/// Why a line is refused that is no right gate line.
+fn refused_gate_line(level: Level, bytes: &[u8]) -> LineFault
+    ensures refused { (head : Head) (gates : List PlainGate) → head.level ≡ level → length gates < head.gates
+        → ((next : Progress) (rest : List ℕ) → ¬ StepsTo (InBody head gates) bytes.now next rest) → IsRefusedLine (InBody head gates) bytes.now result }
+{
+    match level {
+        Level::Mcx => refused_line(&CONTROLS, bytes),
+        Level::Tof | Level::T => LineFault::Wrong,
+    }
+}
+
+/// The gate of a line, where it fits a file with this header.
+fn right_gate<'w>(header: &Header, words: &'w LineWords) -> Option<Gate<'w>>
+    ensures some { IfSome result (λ gate. FitsLevel header.now.level (plain gate) × FitsWires header.now.wires (plain gate)
+        × (words.now.letters.now ≡ letters (plain gate)) × (words.now.numbers.items ≡ numbers_of (plain gate))) }
+    ensures none { IfNone result ((gate : PlainGate) → FitsLevel header.now.level gate → FitsWires header.now.wires gate
+        → words.now.letters.now ≡ letters gate → ¬ (words.now.numbers.items ≡ numbers_of gate)) }
+{
+    let gate = gate_of(words.letters, &words.numbers)?;
+    if fits_level(header.level, &gate) && fits_wires(header.wires, &gate) {
+        Some(gate)
+    } else {
+        None
+    }
+}
+
+/// Takes a gate line: appends its gate to the list, and gives the T-count of the gate and what follows the line.
+fn take_gate<'b>(
+    header: &Header,
+    bytes: &'b [u8],
+    gates: &mut GateList,
+) -> Result<(u64, &'b [u8]), LineFault>
+    requires few_wires { header.now.wires ≤ 1048576 }
+    requires more { length gates.old < header.now.gates }
+    ensures right { IfOk result (λ taken. StepsTo (InBody (head_seen header.now) gates.old) bytes.now (InBody (head_seen header.now) gates.new) taken.1.now) }
+    ensures taken { IfOk result (λ taken. (gate : PlainGate) × (gates.new ≡ gates.old ++ gate ∷ []) × (taken.0 ≡ gate_weight gate) × HasFewControls gate) }
+    ensures refused { IfErr result (λ why. (why ≡ line_fault.Memory) ⊎ IsRefusedLine (InBody (head_seen header.now) gates.old) bytes.now why) }
+{
+    let Some(words) = line_words(bytes) else {
+        return Err(refused_gate_line(header.level, bytes));
+    };
+    let Some(gate) = right_gate(header, &words) else {
+        return Err(refused_gate_line(header.level, bytes));
+    };
+    match gates.push(&gate) {
+        Ok(()) => Ok((gate.t_count(), words.rest)),
+        Err(_) => Err(LineFault::Memory),
+    }
+}
+
+/// The gates behind a header, with their T-count, and what follows their lines.
+#[derive(Drop)]
+struct Body<'b> {
+    gates: GateList,
+    t_count: u64,
+    rest: &'b [u8],
+}
+
+/// Reads the gate lines behind a header.
+fn read_body<'b>(alloc: Global, header: &Header, bytes: &'b [u8]) -> Result<Body<'b>, GateFault>
+    requires few_wires { header.now.wires ≤ 1048576 }
+    requires few_gates { header.now.gates ≤ 4194304 }
+    ensures read { IfOk result (λ body. (all : List ℕ) → Reaches all 5 (InBody (head_seen header.now) []) bytes.now
+        → Reaches all (5 + header.now.gates) (InBody (head_seen header.now) body.gates) body.rest.now) }
+    ensures counted { IfOk result (λ body. (length body.gates ≡ header.now.gates) × (body.t_count ≡ t_count body.gates)) }
+    ensures refused { IfErr result (λ why. (all : List ℕ) → Reaches all 5 (InBody (head_seen header.now) []) bytes.now
+        → (why ≡ fault.Memory) ⊎ IsRefusedText all why) }
+{
+    let mut gates = GateList::new(alloc);
+    let mut t_count = 0;
+    let mut rest = bytes;
+    for lines in 0..header.gates {
+        match take_gate(header, rest, &mut gates) {
+            Ok((weight, behind)) => {
+                t_count += weight;
+                rest = behind;
+            }
+            Err(fault) => return Err(fault.behind(5 + lines)),
+        }
+    }
+    Ok(Body {
+        gates,
+        t_count,
+        rest,
+    })
+}
+
+/// What follows the last line.
+fn last_line(bytes: &[u8]) -> Option<&[u8]>
+    ensures some { IfSome result (λ rest. (head : Head) (gates : List PlainGate) → length gates ≡ head.gates → StepsTo (InBody head gates) bytes.now (Whole head gates) rest.now) }
+    ensures none { IfNone result ((head : Head) (gates : List PlainGate) → length gates ≡ head.gates → IsWrong (InBody head gates) bytes.now) }
+{
+    after(bytes, b"end\n")
+}
+
+/// The gate file at the front of the bytes, and what follows it.
+fn file_at(alloc: Global, bytes: &[u8]) -> Result<(GateFile, &[u8]), GateFault>
+    ensures file { IfOk result (λ read. BeginsWith bytes.now (plain_file read.0) read.1.now) }
+    ensures refused { IfErr result (λ why. (why ≡ fault.Memory) ⊎ IsRefusedText bytes.now why) }
+{
+    let (header, rest) = read_header(bytes)?;
+    let body = read_body(alloc, &header, rest)?;
+    let Some(rest) = last_line(body.rest) else {
+        return Err(GateFault::BadGateText {
+            line: header.gates + 6,
+        });
+    };
+    if header.t_count != Buffer::new().format(body.t_count).as_bytes() {
+        return Err(GateFault::BadGateText { line: 5 });
+    }
+    let file = GateFile {
+        level: header.level,
+        wires: header.wires,
+        t_count: body.t_count,
+        gates: body.gates,
+    };
+    Ok((file, rest))
+}
+
+/// Reads the gate file at the front of the bytes: the file, and the number of bytes that it takes.
+///
+/// The errors: the first line that is wrong in its place, or is missing; a limit that the number of wires, the number of gates
+/// or, at level mcx, the number of controls passes; the line of the T-count, once all lines are read, where it is not that of
+/// the gates; and memory. Nothing is copied but the gates. `docs/FORMATS.md` has the text and the order of its refusals.
+pub fn read_gates(alloc: Global, bytes: &[u8]) -> Result<(GateFile, usize), GateFault>
+    ensures file { IfOk result (λ read. BeginsWith bytes.now (plain_file read.0) (drop read.1 bytes.now)) }
+    ensures size { IfOk result (λ read. read.1 ≡ length (file_text (plain_file read.0))) }
+    ensures only { IfOk result (λ read. (other : File) (rest : List ℕ) → BeginsWith bytes.now other rest → other ≡ plain_file read.0) }
+    ensures accepted { IfOk result (λ read. (why : GateFault) → ¬ IsRefusedText bytes.now why) }
+    ensures refused { (why : GateFault) → result ≡ Err why → (why ≡ fault.Memory) ⊎ IsRefusedText bytes.now why }
+    ensures no_file { (why : GateFault) → result ≡ Err why → why ≢ fault.Memory → (file : File) (rest : List ℕ) → ¬ BeginsWith bytes.now file rest }
+    ensures one_refusal { (why : GateFault) → result ≡ Err why → why ≢ fault.Memory → (other : GateFault) → IsRefusedText bytes.now other → other ≡ why }
+{
+    let (file, rest) = file_at(alloc, bytes)?;
+    Ok((file, bytes.len() - rest.len()))
+}
