@@ -1,0 +1,2 @@
+pub mod BitLines
+pub mod Lanes

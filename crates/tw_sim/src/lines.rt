@@ -1,0 +1,80 @@
+//! Texts of bit lines: how many lines they have, or why they are refused.
+ghost use Rattle.std.specs.Prelude.{◌≡◌, ◌==◌, ◌||◌, ℕ, Bool, List, ◌++◌, length, Err, IfSome, IfOk, IfErr};
+ghost use Rattle.std.specs.List.{list_all};
+ghost use Rattle.std.specs.Option.{IfNone};
+ghost use Rattle.tw_sim.specs.BitLines.{bit_line, AreLinesOf, AreRefused, HasNoLine};
+
+use thiserror::Error;
+use tw_text::{Counted, Pos, Refusal, Rule};
+
+/// The most lines of bits.
+const MOST_LINES: usize = 1024;
+
+/// Why lines of bits are not simulated.
+#[derive(Debug, Clone, Copy, PartialEq, Eq, Error)]
+pub enum LinesFault {
+    /// This line, counted from 1, is the first that is not as many characters `0` or `1` as there are wires, and a newline.
+    #[error("a line of bits is wrong")]
+    BitsLength { line: u32 },
+    /// There are more than 1,024 lines.
+    #[error("there are too many lines of bits")]
+    Over(Refusal),
+    /// Memory is wanting.
+    #[error("memory is wanting")]
+    Memory,
+}
+
+const TOO_MANY: Refusal = Refusal {
+    rule: Rule::Limit(Counted::States),
+    at: Pos { line: 1, col: 1 },
+    found: MOST_LINES as u64 + 1,
+    limit: MOST_LINES as u64,
+};
+
+/// Whether each byte is the character of a bit.
+fn are_digits(bytes: &[u8]) -> bool
+    ensures { result ≡ list_all (λ byte. byte == 48 || byte == 49) bytes.now }
+{
+    bytes.iter().all(|byte| *byte == b'0' || *byte == b'1')
+}
+
+/// What follows a line of so many bits.
+fn behind_line(wires: usize, text: &[u8]) -> Option<&[u8]>
+    ensures some { IfSome result (λ rest. (bits : List Bool) × (length bits ≡ wires) × (text.now ≡ bit_line bits ++ rest.now)) }
+    ensures none { IfNone result (HasNoLine wires text.now) }
+{
+    if text.len() <= wires || text[wires] != b'\n' {
+        return None;
+    }
+    if are_digits(&text[..wires]) {
+        Some(&text[wires + 1..])
+    } else {
+        None
+    }
+}
+
+/// Checks that a text is lines of so many bits, at most 1,024.
+pub fn check_lines(wires: usize, text: &[u8]) -> Result<(), LinesFault>
+    ensures right { IfOk result (λ done. (states : List (List Bool)) × AreLinesOf wires text.now states) }
+    ensures refused { IfErr result (λ why. AreRefused wires text.now why) }
+{
+    let mut rest = text;
+    for line in 0..MOST_LINES {
+        if rest.is_empty() {
+            return Ok(());
+        }
+        match behind_line(wires, rest) {
+            Some(behind) => rest = behind,
+            None => {
+                return Err(LinesFault::BitsLength {
+                    line: line as u32 + 1,
+                });
+            }
+        }
+    }
+    if rest.is_empty() {
+        Ok(())
+    } else {
+        Err(LinesFault::Over(TOO_MANY))
+    }
+}
