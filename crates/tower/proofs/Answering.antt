@@ -6,14 +6,23 @@ use Rattle.tw_text.specs.declared.refusal.Rule.{Rule}
 use Rattle.tw_text.specs.declared.refusal.Rule.TheVariants as rule
 use Rattle.tw_text.specs.Refusals.{refusal_line}
 use Rattle.tw_syntax.specs.Programs.{ProgramTree}
+use Rattle.tw_gatetext.specs.declared.file.GateFault.{GateFault}
+use Rattle.tw_gatetext.specs.declared.file.GateFault.TheVariants as gate_fault
+use Rattle.tw_gatetext.specs.Text.{File}
+use Rattle.tw_sim.specs.declared.lines.LinesFault.{LinesFault}
+use Rattle.tw_sim.specs.declared.lines.LinesFault.TheVariants as lines_fault
 use Rattle.tower.specs.declared.status.Status.{Status}
 use Rattle.tower.specs.declared.status.Status.TheVariants as status
+use Rattle.tower.specs.declared.options.Options.{Options}
 use Rattle.tower.specs.declared.options.Command.{Command}
 use Rattle.tower.specs.declared.options.Command.TheVariants as command
 use Rattle.tower.specs.Words.{Asks}
 use Rattle.tower.specs.ReadingWords.{read_words}
 use Rattle.tower.specs.Refused.{input_limit, too_long, TooLong, status_of}
-use Rattle.tower.specs.Answer.{IsUsage, Built, NotBuilt, TreeAnswer, InputAnswer, OnTree, Refused, Answer, ToCommand, Usage, Gave}
+use Rattle.tower.specs.GateAnswers as gates
+use Rattle.tower.specs.GateAnswers.{GateFaultAnswer, LinesFaultAnswer, InvertAnswer, LinesAnswer, SimulateAnswer}
+use Rattle.tower.specs.Answer as answers
+use Rattle.tower.specs.Answer.{IsUsage, FileAnswer, Built, NotBuilt, PrintAnswer, SourceAnswer, OnTree, Refused, GatesAnswer, InputAnswer, Answer, ToCommand, Usage, Gave}
 use Rattle.tower.specs.Ending.{FailedIn, Ends, Gives, Answers, Unwritten}
 use Rattle.tower.proofs.Asking.{asks-sound}
 use Rattle.tower.proofs.Asked.{asks-complete}
@@ -29,14 +38,49 @@ refusal-is_answer : (r : Rule) → is_answer (status_of r) ≡ true
 refusal-is_answer rule.Utf8 = refl
 refusal-is_answer other = refl
 
-tree-is_answer : (asked : Command) (tree : ProgramTree) (ended : Status) (text : List ℕ) → TreeAnswer asked tree ended text → is_answer ended ≡ true
-tree-is_answer command.Format tree ended text is = ap is_answer is.0
-tree-is_answer (command.Compile options) tree ended text (Built function first e f) = ap is_answer e
-tree-is_answer (command.Compile options) tree ended text (NotBuilt none e f) = ap is_answer e
+file-is_answer : (options : Options) (tree : ProgramTree) (ended : Status) (text : List ℕ) → FileAnswer options tree ended text → is_answer ended ≡ true
+file-is_answer options tree ended text (Built function first e f) = ap is_answer e
+file-is_answer options tree ended text (NotBuilt none e f) = ap is_answer e
+
+source-is_answer : (bytes : List ℕ) (OnProgram : ProgramTree → Status → List ℕ → Type 0) (ended : Status) (text : List ℕ) → ((tree : ProgramTree) → OnProgram tree ended text → is_answer ended ≡ true) →
+    SourceAnswer bytes OnProgram ended text → is_answer ended ≡ true
+source-is_answer bytes OnProgram ended text on_program (OnTree tree input is) = on_program tree is
+source-is_answer bytes OnProgram ended text on_program (Refused refusal refused e f) = ap is_answer e ∙ refusal-is_answer refusal.rule
+
+gate_fault-is_answer : (why : GateFault) (ended : Status) (text : List ℕ) → GateFaultAnswer why ended text → is_answer ended ≡ true
+gate_fault-is_answer (gate_fault.BadGateText number) ended text is = ap is_answer is.0
+gate_fault-is_answer (gate_fault.Over refusal) ended text is = ap is_answer is.0
+gate_fault-is_answer gate_fault.Memory ended text is = absurd is
+
+lines_fault-is_answer : (why : LinesFault) (ended : Status) (text : List ℕ) → LinesFaultAnswer why ended text → is_answer ended ≡ true
+lines_fault-is_answer (lines_fault.BitsLength number) ended text is = ap is_answer is.0
+lines_fault-is_answer (lines_fault.Over refusal) ended text is = ap is_answer is.0
+lines_fault-is_answer lines_fault.Memory ended text is = absurd is
+
+invert-is_answer : (bytes : List ℕ) (ended : Status) (text : List ℕ) → InvertAnswer bytes ended text → is_answer ended ≡ true
+invert-is_answer bytes ended text (gates.Inverted file begins is) = ap is_answer is.0
+invert-is_answer bytes ended text (gates.GoesOn file rest begins some e f) = ap is_answer e
+invert-is_answer bytes ended text (gates.NoFile why refused is) = gate_fault-is_answer why ended text is
+
+lines-is_answer : (file : File) (lines : List ℕ) (ended : Status) (text : List ℕ) → LinesAnswer file lines ended text → is_answer ended ≡ true
+lines-is_answer file lines ended text (gates.Simulated states are e f) = ap is_answer e
+lines-is_answer file lines ended text (gates.BadLines why refused is) = lines_fault-is_answer why ended text is
+
+simulate-is_answer : (bytes : List ℕ) (ended : Status) (text : List ℕ) → SimulateAnswer bytes ended text → is_answer ended ≡ true
+simulate-is_answer bytes ended text (gates.OnLines file behind lines begins level has is) = lines-is_answer file lines ended text is
+simulate-is_answer bytes ended text (gates.OtherLine file behind begins level none e f) = ap is_answer e
+simulate-is_answer bytes ended text (gates.OfLevelT file behind begins level e f) = ap is_answer e
+simulate-is_answer bytes ended text (gates.NoGateFile why refused is) = gate_fault-is_answer why ended text is
+
+gates-is_answer : (bytes : List ℕ) (OnBytes : List ℕ → Status → List ℕ → Type 0) (ended : Status) (text : List ℕ) → (OnBytes bytes ended text → is_answer ended ≡ true) → GatesAnswer bytes OnBytes ended text → is_answer ended ≡ true
+gates-is_answer bytes OnBytes ended text on_bytes (answers.Within within is) = on_bytes is
+gates-is_answer bytes OnBytes ended text on_bytes (answers.TooLong long e f) = ap is_answer e
 
 input-is_answer : (asked : Command) (bytes : List ℕ) (ended : Status) (text : List ℕ) → InputAnswer asked bytes ended text → is_answer ended ≡ true
-input-is_answer asked bytes ended text (OnTree tree input is) = tree-is_answer asked tree ended text is
-input-is_answer asked bytes ended text (Refused refusal refused e f) = ap is_answer e ∙ refusal-is_answer refusal.rule
+input-is_answer command.Format bytes ended text is = source-is_answer bytes PrintAnswer ended text (λ tree printed. ap is_answer printed.0) is
+input-is_answer (command.Compile options) bytes ended text is = source-is_answer bytes (FileAnswer options) ended text (λ tree file. file-is_answer options tree ended text file) is
+input-is_answer command.Simulate bytes ended text is = gates-is_answer bytes SimulateAnswer ended text (simulate-is_answer bytes ended text) is
+input-is_answer command.Invert bytes ended text is = gates-is_answer bytes InvertAnswer ended text (invert-is_answer bytes ended text) is
 
 -- an answer has a status of its own
 pub answer-is_answer : (words : List (List ℕ)) (bytes : List ℕ) (ended : Status) (text : List ℕ) → Answer words bytes ended text → is_answer ended ≡ true
@@ -128,5 +172,11 @@ long_input left now took = by_source left now took.taken
     by_source (Some all) None taken = absurd taken
 
 -- the answer to them
+long_refused : (asked : Command) (bytes : List ℕ) → input_limit < length bytes → InputAnswer asked bytes status.Limit (refusal_line too_long)
+long_refused command.Format bytes long = Refused too_long (TooLong long refl) refl refl
+long_refused (command.Compile options) bytes long = Refused too_long (TooLong long refl) refl refl
+long_refused command.Simulate bytes long = answers.TooLong long refl refl
+long_refused command.Invert bytes long = answers.TooLong long refl refl
+
 pub long_answer : (words : List (List ℕ)) (bytes : List ℕ) (asked : Command) → Asks words asked → input_limit < length bytes → Answer words bytes status.Limit (refusal_line too_long)
-long_answer words bytes asked asks long = ToCommand asked asks (Refused too_long (TooLong long refl) refl refl)
+long_answer words bytes asked asks long = ToCommand asked asks (long_refused asked bytes long)

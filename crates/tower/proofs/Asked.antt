@@ -238,5 +238,7 @@ compile-read word words options same h = rw ((bytes_eq-Decides word (codes "comp
 -- the words that ask for a command are read as this
 pub asks-complete : (words : List (List ℕ)) (asked : Command) → Asks words asked → read_words words ≡ Some asked
 asks-complete words command.Format asks = rw asks refl
+asks-complete words command.Simulate asks = rw asks refl
+asks-complete words command.Invert asks = rw asks refl
 asks-complete [] (command.Compile options) asks = let e = asks.spelled in cc
 asks-complete (word ∷ words) (command.Compile options) asks = compile-read word words options (head_is word _ words _ asks.spelled) (file-complete word words options asks)

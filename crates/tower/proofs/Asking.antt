@@ -10,7 +10,7 @@ use Rattle.tower.specs.declared.options.Key.{Key}
 use Rattle.tower.specs.declared.options.Key.TheVariants as keys
 use Rattle.tower.specs.declared.options.Given.{Given}
 use Rattle.tower.specs.Words.{Choice, Word, Addr, Entry, Inverse, choice_words, word_widths, addr_widths, entries, inverses, AsksFile, Asks}
-use Rattle.tower.specs.ReadingWords.{number_in, unless_given, after_key, after_value, after_pending, after_word, settings, settings_after, nothing, read_compile, read_format, read_words, IsNarrow}
+use Rattle.tower.specs.ReadingWords.{number_in, unless_given, after_key, after_value, after_pending, after_word, settings, settings_after, nothing, read_compile, alone, read_words, IsNarrow}
 use Rattle.tower.proofs.Binds.{bind_some, some_is}
 use Rattle.tower.proofs.Numbers.{number_in-sound}
 
@@ -207,22 +207,28 @@ compile-sound : (words : List (List ℕ)) (found : Option Options) (asked : Comm
 compile-sound words None asked e h = cc
 compile-sound words (Some options) asked e h = subst (Asks (codes "compile" ∷ words)) (some_is _ _ h) (file-sound words options e)
 
-format-sound : (words : List (List ℕ)) (asked : Command) → read_format words ≡ Some asked → Asks (codes "format" ∷ words) asked
-format-sound [] asked h = subst (Asks (codes "format" ∷ [])) (some_is _ _ h) refl
-format-sound (word ∷ words) asked h = cc
+-- a command without options is asked for by its word alone
+alone-sound : (found asked : Command) (first : List ℕ) (words : List (List ℕ)) → Asks (first ∷ []) found → alone found words ≡ Some asked → Asks (first ∷ words) asked
+alone-sound found asked first [] asks h = subst (Asks (first ∷ [])) (some_is _ _ h) asks
+alone-sound found asked first (word ∷ words) asks h = cc
 
-by_first : (word : List ℕ) (words : List (List ℕ)) (asked : Command) (k l : Bool) → bytes_eq word (codes "compile") ≡ k → bytes_eq word (codes "format") ≡ l →
-    cond k (read_compile words) (cond l (read_format words) None) ≡ Some asked → Asks (word ∷ words) asked
-by_first word words asked true l e f h = rw ((bytes_eq-Decides word (codes "compile")).0 e) (compile-sound words (settings_after nothing words) asked refl h)
-by_first word words asked false true e f h = rw ((bytes_eq-Decides word (codes "format")).0 f) (format-sound words asked h)
-by_first word words asked false false e f h = cc
+by_first : (word : List ℕ) (words : List (List ℕ)) (asked : Command) (k l m n : Bool) →
+    bytes_eq word (codes "compile") ≡ k → bytes_eq word (codes "format") ≡ l → bytes_eq word (codes "sim") ≡ m → bytes_eq word (codes "invert") ≡ n →
+    cond k (read_compile words) (cond l (alone command.Format words) (cond m (alone command.Simulate words) (cond n (alone command.Invert words) None))) ≡ Some asked → Asks (word ∷ words) asked
+by_first word words asked true l m n e f g i h = rw ((bytes_eq-Decides word (codes "compile")).0 e) (compile-sound words (settings_after nothing words) asked refl h)
+by_first word words asked false true m n e f g i h = rw ((bytes_eq-Decides word (codes "format")).0 f) (alone-sound command.Format asked (codes "format") words refl h)
+by_first word words asked false false true n e f g i h = rw ((bytes_eq-Decides word (codes "sim")).0 g) (alone-sound command.Simulate asked (codes "sim") words refl h)
+by_first word words asked false false false true e f g i h = rw ((bytes_eq-Decides word (codes "invert")).0 i) (alone-sound command.Invert asked (codes "invert") words refl h)
+by_first word words asked false false false false e f g i h = cc
 
 -- the words that are read ask for what is read
 pub asks-sound : (words : List (List ℕ)) (asked : Command) → read_words words ≡ Some asked → Asks words asked
 asks-sound [] asked h = cc
-asks-sound (word ∷ words) asked h = by_first word words asked (bytes_eq word (codes "compile")) (bytes_eq word (codes "format")) refl refl h
+asks-sound (word ∷ words) asked h = by_first word words asked _ _ _ _ refl refl refl refl h
 
 -- the addresses that are asked for are of 1 to 8 bits
 pub narrow_command : (words : List (List ℕ)) (asked : Command) → Asks words asked → IsNarrow asked
 narrow_command words command.Format asks = tt
 narrow_command words (command.Compile options) asks = asks.addr_in_range
+narrow_command words command.Simulate asks = tt
+narrow_command words command.Invert asks = tt

@@ -1,17 +1,17 @@
 -- How a call that writes an answer ends.
-use Rattle.std.proofs.Common.{◌≡◌, sym, subst, ℕ, inl, inr, List, Option, Result, Ok, Err, refl}
+use Rattle.std.proofs.Common.{◌≡◌, sym, subst, ℕ, ◌≤◌, inl, inr, List, length, Option, Result, Ok, Err, refl}
 use Rattle.tw_io.specs.declared.outside.WriteFault.{WriteFault}
 use Rattle.tw_io.specs.Devices.{Wrote}
 use Rattle.tw_gatetext.specs.Text.{File, file_text}
+use Rattle.tw_text.specs.declared.refusal.Refusal.{Refusal}
+use Rattle.tw_text.specs.Refusals.{refusal_line}
 use Rattle.tw_syntax.specs.Programs.{ProgramTree}
-use Rattle.tw_print.specs.Programs.{program_print}
-use Rattle.tower.specs.declared.options.Options.{Options}
-use Rattle.tower.specs.declared.options.Command.{Command}
-use Rattle.tower.specs.declared.options.Command.TheVariants as command
+use Rattle.tw_parse.specs.Sources.{IsSource, IsRefused}
 use Rattle.tower.specs.declared.status.Status.{Status}
 use Rattle.tower.specs.declared.status.Status.TheVariants as status
-use Rattle.tower.specs.Refused.{IsInput}
-use Rattle.tower.specs.Answer.{FileAnswer, TreeAnswer, InputAnswer, OnTree}
+use Rattle.tower.specs.declared.options.Command.{Command}
+use Rattle.tower.specs.Refused.{NoSource, input_limit, status_of}
+use Rattle.tower.specs.Answer.{SourceAnswer, OnTree, Refused, InputAnswer}
 use Rattle.tower.specs.Ending.{Ends, finished, Gives, Answers, Unwritten}
 
 -- a text that was written, as an answer with its status
@@ -26,27 +26,29 @@ ends-file taken faults old new written ended file other same is wrote =
     let ends = ends-wrote taken faults old new written status.Ok (file_text file) wrote in
     subst (λ (s : Status). Ends taken faults old new s status.Ok (file_text other)) (sym is) (subst (λ (f : File). Ends taken faults old new (finished written status.Ok) status.Ok (file_text f)) same ends)
 
--- what is answered on the program of an input is answered on the input
-pub gives_on_tree : {K : Type 0} {taken : K → Option (List ℕ)} {faults : K → ℕ} {old new : K} {ended : Status} {asked : Command} {bytes : List ℕ} {tree : ProgramTree} → IsInput bytes tree →
-    Gives taken faults old new ended (TreeAnswer asked tree) → Gives taken faults old new ended (InputAnswer asked bytes)
-gives_on_tree input (Answers s text is ends) = Answers s text (OnTree _ input is) ends
-gives_on_tree input (Unwritten memory same) = Unwritten memory same
+-- what is an answer of one kind is one of another
+pub gives_as : {K : Type 0} {taken : K → Option (List ℕ)} {faults : K → ℕ} {old new : K} {ended : Status} {P Q : Status → List ℕ → Type 0} → ((s : Status) (text : List ℕ) → P s text → Q s text) →
+    Gives taken faults old new ended P → Gives taken faults old new ended Q
+gives_as go (Answers s text is ends) = Answers s text (go s text is) ends
+gives_as go (Unwritten memory same) = Unwritten memory same
 
--- a text that is the printed form of a program, and was written, is the answer to `format`
-pub gives_printed : {K : Type 0} {taken : K → Option (List ℕ)} {faults : K → ℕ} {old new : K} {written : Result (Unit {0}) WriteFault} {ended : Status} {text : List ℕ} (tree : ProgramTree) → text ≡ program_print tree →
-    ended ≡ finished written status.Ok → Wrote taken faults old new written text → Gives taken faults old new ended (TreeAnswer command.Format tree)
-gives_printed {K} {taken} {faults} {old} {new} {written} {ended} {text} tree same is wrote =
-    Answers status.Ok text (refl, same) (
-    subst (λ (s : Status). Ends taken faults old new s status.Ok text) (sym is) (ends-wrote taken faults old new written status.Ok text wrote))
+-- a text that is an answer that ends well, and was written
+pub gives_written : {K : Type 0} {taken : K → Option (List ℕ)} {faults : K → ℕ} {old new : K} {written : Result (Unit {0}) WriteFault} {ended : Status} {P : Status → List ℕ → Type 0} (text : List ℕ) → P status.Ok text →
+    ended ≡ finished written status.Ok → Wrote taken faults old new written text → Gives taken faults old new ended P
+gives_written {K} {taken} {faults} {old} {new} {written} {ended} {P} text answer is wrote =
+    Answers status.Ok text answer (subst (λ (s : Status). Ends taken faults old new s status.Ok text) (sym is) (ends-wrote taken faults old new written status.Ok text wrote))
 
--- what is answered to `format` is answered to the command that asks for it
-pub gives_form : {K : Type 0} {taken : K → Option (List ℕ)} {faults : K → ℕ} {old new : K} {ended : Status} {asked : Command} (tree : ProgramTree) → asked ≡ command.Format →
-    Gives taken faults old new ended (TreeAnswer command.Format tree) → Gives taken faults old new ended (TreeAnswer asked tree)
-gives_form {K} {taken} {faults} {old} {new} {ended} {asked} tree formats gives =
-    subst (λ (a : Command). Gives taken faults old new ended (TreeAnswer a tree)) (sym formats) gives
+-- the line of a source that is refused is the answer to it
+pub gives_source_refused : {K : Type 0} {taken : K → Option (List ℕ)} {faults : K → ℕ} {old new : K} {ended : Status} (bytes : List ℕ) (OnProgram : ProgramTree → Status → List ℕ → Type 0) (refusal : Refusal) → length bytes ≤ input_limit → IsRefused bytes refusal →
+    Ends taken faults old new ended (status_of refusal.rule) (refusal_line refusal) → Gives taken faults old new ended (SourceAnswer bytes OnProgram)
+gives_source_refused bytes OnProgram refusal within refused ends = Answers (status_of refusal.rule) (refusal_line refusal) (Refused refusal (NoSource within refused) refl refl) ends
 
--- what is answered of its gate file is the answer to `compile`
-pub gives_file : {K : Type 0} {taken : K → Option (List ℕ)} {faults : K → ℕ} {old new : K} {ended : Status} {asked : Command} {options : Options} {tree : ProgramTree} → asked ≡ command.Compile options →
-    Gives taken faults old new ended (FileAnswer options tree) → Gives taken faults old new ended (TreeAnswer asked tree)
-gives_file {K} {taken} {faults} {old} {new} {ended} {asked} {options} {tree} compiles gives =
-    subst (λ (a : Command). Gives taken faults old new ended (TreeAnswer a tree)) (sym compiles) gives
+-- what is answered on the program of a source is the answer to it
+pub gives_on_program : {K : Type 0} {taken : K → Option (List ℕ)} {faults : K → ℕ} {old new : K} {ended : Status} (bytes : List ℕ) (OnProgram : ProgramTree → Status → List ℕ → Type 0) (tree : ProgramTree) → length bytes ≤ input_limit → IsSource bytes tree →
+    Gives taken faults old new ended (OnProgram tree) → Gives taken faults old new ended (SourceAnswer bytes OnProgram)
+gives_on_program bytes OnProgram tree within source gives = gives_as (λ s text is. OnTree tree (record { within = within; source = source }) is) gives
+
+-- what is answered to a command is answered to what is the same
+pub gives_asked : {K : Type 0} {taken : K → Option (List ℕ)} {faults : K → ℕ} {old new : K} {ended : Status} (asked wanted : Command) (bytes : List ℕ) → asked ≡ wanted → Gives taken faults old new ended (InputAnswer wanted bytes) →
+    Gives taken faults old new ended (InputAnswer asked bytes)
+gives_asked {K} {taken} {faults} {old} {new} {ended} asked wanted bytes is gives = subst (λ (a : Command). Gives taken faults old new ended (InputAnswer a bytes)) (sym is) gives

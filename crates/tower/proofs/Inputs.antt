@@ -12,7 +12,7 @@ use Rattle.tower.proofs.Binds.{some_is}
 pub one_tree : (bytes : List ℕ) (tree other : ProgramTree) → IsInput bytes tree → IsInput bytes other → tree ≡ other
 one_tree bytes tree other x y = one_source bytes other tree y.source x.source
 
-within_limit : (bytes : List ℕ) → length bytes ≤ input_limit → input_limit < length bytes → ⊥
+pub within_limit : (bytes : List ℕ) → length bytes ≤ input_limit → input_limit < length bytes → ⊥
 within_limit bytes few many = omega (arith, few, many)
 
 pub one_refused : (bytes : List ℕ) (r other : Refusal) → IsRefusedInput bytes r → IsRefusedInput bytes other → r ≡ other

@@ -13,4 +13,10 @@ pub mod Long
 pub mod Endings
 pub mod Answering
 pub mod Compiles
-pub mod Promises
+pub mod GateInputs
+pub mod Permuting
+pub mod BehindFiles
+pub mod OneAnswer
+pub mod Told
+pub mod Printed
+pub mod WhenEnded

@@ -1,5 +1,5 @@
 -- What the program answers to words and bytes, phase by phase, and what a call did against that.
-use Rattle.std.specs.Prelude.{◌≡◌, ◌⊎◌, ℕ, List, [], codes, Option, IfSome}
+use Rattle.std.specs.Prelude.{◌≡◌, ◌⊎◌, ℕ, ◌<◌, ◌≤◌, List, [], length, codes, Option, IfSome}
 use Rattle.tw_io.specs.Devices.{Appends, AppendsFront}
 use Rattle.tw_text.specs.declared.refusal.Refusal.{Refusal}
 use Rattle.tw_text.specs.Refusals.{refusal_line}
@@ -13,9 +13,10 @@ use Rattle.tower.specs.declared.options.Options.{Options}
 use Rattle.tower.specs.declared.options.Command.{Command}
 use Rattle.tower.specs.declared.options.Command.TheVariants as command
 use Rattle.tower.specs.Words.{Asks}
-use Rattle.tower.specs.Refused.{IsInput, IsRefusedInput, status_of}
+use Rattle.tower.specs.Refused.{IsInput, IsRefusedInput, input_limit, too_long, status_of}
 use Rattle.tower.specs.FirstTree.{IsFirstTree}
 use Rattle.tower.specs.DefinedFile.{file_of}
+use Rattle.tower.specs.GateAnswers.{SimulateAnswer, InvertAnswer}
 
 -- the words ask for nothing that the program does
 abbrev pub IsUsage : List (List ℕ) → Type 0
@@ -30,15 +31,26 @@ pub data FileAnswer (options : Options) (tree : ProgramTree) (ended : Status) (t
   Built : (function : Function) → IsFirstTree tree function → ended ≡ status.Ok → text ≡ file_text (file_of options.widths options.inverse function) → FileAnswer options tree ended text
   NotBuilt : IsNoFirstTree tree → ended ≡ status.NotBuilt → text ≡ codes "refused not-built\n" → FileAnswer options tree ended text
 
--- the answer to a command on a program is this status with this text
-abbrev pub TreeAnswer : Command → ProgramTree → Status → List ℕ → Type 0
-TreeAnswer command.Format tree ended text = (ended ≡ status.Ok) × (text ≡ program_print tree)
-TreeAnswer (command.Compile options) tree ended text = FileAnswer options tree ended text
+-- the printed form of a program
+abbrev pub PrintAnswer : ProgramTree → Status → List ℕ → Type 0
+PrintAnswer tree ended text = (ended ≡ status.Ok) × (text ≡ program_print tree)
 
--- the answer to a command on an input: what is answered on its program, or the line that refuses it
-pub data InputAnswer (asked : Command) (bytes : List ℕ) (ended : Status) (text : List ℕ) : Type 0 where
-  OnTree : (tree : ProgramTree) → IsInput bytes tree → TreeAnswer asked tree ended text → InputAnswer asked bytes ended text
-  Refused : (refusal : Refusal) → IsRefusedInput bytes refusal → ended ≡ status_of refusal.rule → text ≡ refusal_line refusal → InputAnswer asked bytes ended text
+-- the answer to an input that is to be the source of a program: what is answered on its program, or the line that refuses it
+pub data SourceAnswer (bytes : List ℕ) (OnProgram : ProgramTree → Status → List ℕ → Type 0) (ended : Status) (text : List ℕ) : Type 0 where
+  OnTree : (tree : ProgramTree) → IsInput bytes tree → OnProgram tree ended text → SourceAnswer bytes OnProgram ended text
+  Refused : (refusal : Refusal) → IsRefusedInput bytes refusal → ended ≡ status_of refusal.rule → text ≡ refusal_line refusal → SourceAnswer bytes OnProgram ended text
+
+-- the answer to an input that is to begin with a gate file: what is answered on its bytes, unless they are too many
+pub data GatesAnswer (bytes : List ℕ) (OnBytes : List ℕ → Status → List ℕ → Type 0) (ended : Status) (text : List ℕ) : Type 0 where
+  Within : length bytes ≤ input_limit → OnBytes bytes ended text → GatesAnswer bytes OnBytes ended text
+  TooLong : input_limit < length bytes → ended ≡ status.Limit → text ≡ refusal_line too_long → GatesAnswer bytes OnBytes ended text
+
+-- the answer to a command on an input is this status with this text
+abbrev pub InputAnswer : Command → List ℕ → Status → List ℕ → Type 0
+InputAnswer command.Format bytes ended text = SourceAnswer bytes PrintAnswer ended text
+InputAnswer (command.Compile options) bytes ended text = SourceAnswer bytes (FileAnswer options) ended text
+InputAnswer command.Simulate bytes ended text = GatesAnswer bytes SimulateAnswer ended text
+InputAnswer command.Invert bytes ended text = GatesAnswer bytes InvertAnswer ended text
 
 -- the answer to words and an input: what is answered to the command that they ask for, or a line where they ask for none
 pub data Answer (words : List (List ℕ)) (bytes : List ℕ) (ended : Status) (text : List ℕ) : Type 0 where

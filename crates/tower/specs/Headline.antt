@@ -1,8 +1,11 @@
--- The headline: what a printed gate file promises of the program that it was made from; and what a printed program promises.
-use Rattle.std.specs.Prelude.{◌≡◌, ℕ, false, List, [], ◌++◌, Option}
-use Rattle.tw_gate.specs.Gates.{PlainGate, directed}
+-- The headline: what a printed gate file promises of the program that it was made from; and what a printed program, an inverse
+-- file and simulated lines promise.
+use Rattle.std.specs.Prelude.{◌≡◌, ℕ, Bool, false, List, [], ◌++◌, length, map, Option}
+use Rattle.tw_gate.specs.Gates.{PlainGate, act, inverse, directed}
 use Rattle.tw_gatetext.specs.Text.{File, file_text}
 use Rattle.tw_gatetext.specs.Valid.{IsValid}
+use Rattle.tw_gatetext.specs.Files.{BeginsWith}
+use Rattle.tw_sim.specs.BitLines.{bit_lines, AreLinesOf}
 use Rattle.tw_io.specs.Devices.{Appends}
 use Rattle.tw_syntax.specs.Programs.{ProgramTree}
 use Rattle.tw_print.specs.Programs.{program_print}
@@ -14,6 +17,7 @@ use Rattle.tower.specs.declared.options.Options.{Options}
 use Rattle.tower.specs.Refused.{IsInput}
 use Rattle.tower.specs.FirstTree.{IsFirstTree}
 use Rattle.tower.specs.DefinedFile.{file_of}
+use Rattle.tower.specs.GateAnswers.{inverse_file, HasLines}
 
 -- the file can be trusted as the function's
 pub record IsCompiled (options : Options) (function : Function) (file : File) : Type 0 where
@@ -47,3 +51,31 @@ pub record Formatted (bytes : List ℕ) (before now : Option (List ℕ)) : Type 
   pub input : IsInput bytes tree
   pub printed : Appends before now (program_print tree)
   pub reads_back : ReadsBack tree
+
+-- The gates permute the lists of as many bits as the file has wires: these stay as long, and what the gates do, the inverse gates
+-- undo, and the other way round. Hadamard and T gates, which change amplitudes, do nothing to bits here.
+pub record IsPermutation (file : File) : Type 0 where
+  pub wide : (bits : List Bool) → length bits ≡ file.wires → length (act file.gates bits) ≡ file.wires
+  pub undone : (bits : List Bool) → act (inverse file.gates) (act file.gates bits) ≡ bits
+  pub undoes : (bits : List Bool) → act file.gates (act (inverse file.gates) bits) ≡ bits
+
+-- the input is a valid gate file, and the sink took the text of the inverse file, which is valid too and whose inverse is the file
+pub record Inverted (bytes : List ℕ) (before now : Option (List ℕ)) : Type 0 where
+  pub file : File
+  pub begins : BeginsWith bytes file []
+  pub printed : Appends before now (file_text (inverse_file file))
+  pub valid : IsValid (inverse_file file)
+  pub twice : inverse_file (inverse_file file) ≡ file
+  pub permutes : IsPermutation file
+
+-- the input is a valid gate file and lines of bits, and the sink took a line for each: what the gates make of it
+pub record Simulated (bytes : List ℕ) (before now : Option (List ℕ)) : Type 0 where
+  pub file : File
+  pub behind : List ℕ
+  pub begins : BeginsWith bytes file behind
+  pub lines : List ℕ
+  pub has : HasLines behind lines
+  pub states : List (List Bool)
+  pub spelled : AreLinesOf file.wires lines states
+  pub printed : Appends before now (bit_lines (map (act file.gates) states))
+  pub permutes : IsPermutation file

@@ -7,6 +7,7 @@ pub mod Seen
 pub mod DefinedFile
 pub mod Number
 pub mod Refused
+pub mod GateAnswers
 pub mod Answer
 pub mod Causes
 pub mod Ending

@@ -67,18 +67,21 @@ nothing = record { pending = None; word = None; addr = None; entry = false; inve
 abbrev pub read_compile : List (List ℕ) → Option Command
 read_compile words = option_map command.Compile (settings_after nothing words)
 
--- nothing stands behind `format`
-abbrev pub read_format : List (List ℕ) → Option Command
-read_format [] = Some command.Format
-read_format (word ∷ words) = None
+-- a command without options, where nothing stands behind its word
+abbrev pub alone : Command → List (List ℕ) → Option Command
+alone asked [] = Some asked
+alone asked (word ∷ words) = None
 
 -- the command that the words ask for
 abbrev pub read_words : List (List ℕ) → Option Command
 read_words [] = None
 read_words (word ∷ words) =
-    if bytes_eq word (codes "compile") then read_compile words else (if bytes_eq word (codes "format") then read_format words else None)
+    if bytes_eq word (codes "compile") then read_compile words else
+    (if bytes_eq word (codes "format") then alone command.Format words else
+    (if bytes_eq word (codes "sim") then alone command.Simulate words else
+    (if bytes_eq word (codes "invert") then alone command.Invert words else None)))
 
 -- the addresses of a command are of 1 to 8 bits
 abbrev pub IsNarrow : Command → Type 0
-IsNarrow command.Format = Unit {0}
 IsNarrow (command.Compile options) = (1 ≤ options.widths.addr) × (options.widths.addr ≤ 8)
+IsNarrow asked = Unit {0}

@@ -55,7 +55,9 @@ pub record AsksFile (words : List (List ℕ)) (options : Options) : Type 0 where
   pub word_in_range : (1 ≤ options.widths.word) × (options.widths.word ≤ 32)
   pub addr_in_range : (1 ≤ options.widths.addr) × (options.widths.addr ≤ 8)
 
--- the words ask for this command; `format` has no options
+-- the words ask for this command; `format`, `sim` and `invert` have no options
 abbrev pub Asks : List (List ℕ) → Command → Type 0
 Asks words command.Format = words ≡ codes "format" ∷ []
 Asks words (command.Compile options) = AsksFile words options
+Asks words command.Simulate = words ≡ codes "sim" ∷ []
+Asks words command.Invert = words ≡ codes "invert" ∷ []

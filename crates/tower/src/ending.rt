@@ -65,3 +65,10 @@ pub fn refuse_source<K: Sink>(output: &mut K, refusal: &Refusal) -> Status
 {
     refuse(output, status_of(refusal.rule), refusal.line().as_bytes())
 }
+
+/// Writes the line of a limit that is passed by what is no source, so that its rule need not be tried.
+pub fn refuse_limit<K: Sink>(output: &mut K, refusal: &Refusal) -> Status
+    ensures { Ends K.taken K.faults output.old output.new result Status.Limit (refusal_line refusal.now) }
+{
+    refuse(output, Status::Limit, refusal.line().as_bytes())
+}

@@ -6,8 +6,12 @@ mod call;
 mod commands;
 mod ending;
 mod form;
+mod gate_faults;
+mod inverting;
+mod numbered;
 mod options;
 mod run;
+mod simulating;
 mod status;
 #[cfg(test)]
 mod tests;

@@ -1,6 +1,6 @@
 //! The words of a call, read one after the other.
 ghost use Rattle.std.specs.Prelude.{◌≡◌, drop};
-ghost use Rattle.tower.specs.ReadingWords.{number_in, after_key, after_value, after_word, settings_of, nothing, settings_after, read_words};
+ghost use Rattle.tower.specs.ReadingWords.{number_in, after_key, after_value, after_word, settings_of, nothing, settings_after, alone, read_words};
 
 use crate::words::Words;
 use tw_types::Widths;
@@ -21,6 +21,10 @@ pub enum Command {
     Format,
     /// The gate file of a program, or the inverse file.
     Compile(Options),
+    /// What the gates of a file make of lines of bits.
+    Simulate,
+    /// The inverse of a gate file.
+    Invert,
 }
 
 /// An option whose value is the next word.
@@ -152,6 +156,13 @@ fn options_of(words: &Words) -> Option<Options>
     given.settings()
 }
 
+/// A command without options, where nothing stands behind its word.
+fn alone(command: Command, words: &Words) -> Option<Command>
+    ensures { result ≡ alone command (drop 1 words.now) }
+{
+    if words.len() < 2 { Some(command) } else { None }
+}
+
 /// What the words ask for, if they are a command and its options.
 pub fn command_of(words: &Words) -> Option<Command>
     ensures { result ≡ read_words words.now }
@@ -164,7 +175,9 @@ pub fn command_of(words: &Words) -> Option<Command>
             let options = options_of(words)?;
             Some(Command::Compile(options))
         }
-        "format" if words.len() == 1 => Some(Command::Format),
+        "format" => alone(Command::Format, words),
+        "sim" => alone(Command::Simulate, words),
+        "invert" => alone(Command::Invert, words),
         _ => None,
     }
 }

@@ -145,6 +145,8 @@ fn refuses_other_words(rt: HostRuntime) -> Result<(), AllocError> {
         "compile --word 1 --addr 1",
         "format --word 1",
         "formats",
+        "sim sim",
+        "invert --word 1",
         "",
     ];
     for line in table {
@@ -222,16 +224,139 @@ fn refuses_programs_that_are_not_compiled_yet(rt: HostRuntime) -> Result<(), All
     Ok(())
 }
 
+/// A file of level t, and its inverse.
+const T_FILE: &str = "tower-gates 1\nlevel t\nwires 3\ngates 6\nt-count 3\n\
+h 2\nt 1\ntdg 0\ncx 0 1\nx 2\nt 1\nend\n";
+
+const T_INVERSE: &str = "tower-gates 1\nlevel t\nwires 3\ngates 6\nt-count 3\n\
+tdg 1\nx 2\ncx 0 1\nt 0\ntdg 1\nh 2\nend\n";
+
+#[test]
+fn inverts_gate_files(rt: HostRuntime) -> Result<(), AllocError> {
+    let table = [
+        (AND_FILE, AND_FILE),
+        (T_FILE, T_INVERSE),
+        (T_INVERSE, T_FILE),
+    ];
+    for (file, inverse) in table {
+        assert!(rt;
+            answers(&rt, "invert", file.as_bytes(), Status::Ok, inverse)?,
+            "{file}"
+        );
+    }
+    Ok(())
+}
+
+#[test]
+fn refuses_what_is_no_gate_file(rt: HostRuntime) -> Result<(), AllocError> {
+    let at_5 = "refused bad-gate-text at line 5\n";
+    let table = [
+        ("", "refused bad-gate-text at line 1\n"),
+        (
+            "tower-gates 1\nlevel mcx\nwires 7\ngates 6\nt-count 7\n\
+cx 2 5\ncx 3 6\nccx 5 6 4\ncx 3 6\ncx 2 5\nend\n",
+            "refused bad-gate-text at line 11\n",
+        ),
+        (
+            "tower-gates 1\nlevel mcx\nwires 7\ngates 5\nt-count 7\n\
+cx 2 5\ncx 3 6\nccx 5 6 4\ncx 3 6\ncx 2 5\n",
+            "refused bad-gate-text at line 11\n",
+        ),
+        (
+            "tower-gates 1\nlevel mcx\nwires 7\ngates 5\nt-count 8\n\
+cx 2 5\ncx 3 6\nccx 5 6 4\ncx 3 6\ncx 2 5\nend\n",
+            at_5,
+        ),
+        (
+            "tower-gates 1\nlevel mcx\nwires 7\ngates 5\nt-count 8\n\
+cx 2 5\ncx 3 6\nccx 5 6 4\ncx 3 6\ncx 2 5\nend\nx",
+            at_5,
+        ),
+        (
+            "tower-gates 1\nlevel mcx\nwires 7\ngates 5\nt-count 7\n\
+cx 02 5\ncx 3 6\nccx 5 6 4\ncx 3 6\ncx 2 5\nend\n",
+            "refused bad-gate-text at line 6\n",
+        ),
+        (
+            "tower-gates 1\nlevel mcx\nwires 7\ngates 5\nt-count 7\n\
+cx 2 5\ncx 3 6\nmcx 2 5 6 4\ncx 3 6\ncx 2 5\nend\n",
+            "refused bad-gate-text at line 8\n",
+        ),
+        (
+            "tower-gates 1\nlevel t\nwires 7\ngates 1\nt-count 1\nh 4\nend\n%%\nxx",
+            at_5,
+        ),
+    ];
+    for (text, line) in table {
+        let bytes = text.as_bytes();
+        assert!(rt;
+            answers(&rt, "invert", bytes, Status::BadGateText, line)?,
+            "{text}"
+        );
+        assert!(rt;
+            answers(&rt, "sim", bytes, Status::BadGateText, line)?,
+            "{text}"
+        );
+    }
+    let wide = b"tower-gates 1\nlevel mcx\nwires 1048577\n";
+    let line = "refused limit wires found 1048577 limit 1048576\n";
+    assert!(rt; answers(&rt, "invert", wide, Status::Limit, line)?);
+    assert!(rt; answers(&rt, "sim", wide, Status::Limit, line)?);
+    Ok(())
+}
+
+#[test]
+fn answers_what_stands_behind_a_file(rt: HostRuntime) -> Result<(), AllocError> {
+    let other = "refused bad-gate-text at line 12\n";
+    let table = [
+        ("", Status::Ok, ""),
+        ("%%", Status::Ok, ""),
+        ("%%\n", Status::Ok, ""),
+        ("%%\n1011000\n", Status::Ok, "1011100\n"),
+        ("%%\n1011000\n0101000\n", Status::Ok, "1011100\n0101000\n"),
+        ("x", Status::BadGateText, other),
+        ("%%%\n", Status::BadGateText, other),
+        ("%\n", Status::BadGateText, other),
+        (
+            "%%\n101100\n",
+            Status::BitsLength,
+            "refused bits-length at line 1\n",
+        ),
+        (
+            "%%\n1011000\n1011\n",
+            Status::BitsLength,
+            "refused bits-length at line 2\n",
+        ),
+    ];
+    for (behind, status, line) in table {
+        let text = repeated(&rt, AND_FILE, behind, 1, "")?;
+        assert!(rt;
+            answers(&rt, "sim", text.as_bytes(), status, line)?,
+            "{behind}"
+        );
+    }
+    let many = repeated(&rt, AND_FILE, "%%\n", 1, "")?;
+    let many = repeated(&rt, &many, "1011000\n", 1025, "")?;
+    let line = "refused limit states found 1025 limit 1024\n";
+    assert!(rt; answers(&rt, "sim", many.as_bytes(), Status::Limit, line)?);
+    let level_t = b"tower-gates 1\nlevel t\nwires 7\ngates 1\nt-count 0\nh 4\nend\n%%\nxx";
+    assert!(rt; answers(&rt, "sim", level_t, Status::LevelT, "refused level-t\n")?);
+    let more = repeated(&rt, AND_FILE, "x", 1, "")?;
+    assert!(rt; answers(&rt, "invert", more.as_bytes(), Status::BadGateText, other)?);
+    Ok(())
+}
+
 /// The answer where one read fails, each read giving a byte, or one write fails, or the sink has little room.
 fn cut_short(
     rt: &HostRuntime,
     line: &str,
+    text: &str,
     read: u64,
     room: usize,
     write: u64,
 ) -> Result<Answer, AllocError> {
     let words = words_of(rt, line)?;
-    let text = Vec::from_slice(rt.alloc(), AND.as_bytes())?;
+    let text = Vec::from_slice(rt.alloc(), text.as_bytes())?;
     let mut input = MemSource::new(text, 1, vec![in rt.alloc(); read]?);
     let mut output = MemSink::new(rt.alloc(), room, vec![in rt.alloc(); write]?)?;
     let status = tower_main(rt.alloc(), &words, &mut input, &mut output);
@@ -239,17 +364,25 @@ fn cut_short(
     Ok(Answer { status, text })
 }
 
+/// A file with a line of bits.
+const AND_STATE: &str = "tower-gates 1\nlevel mcx\nwires 7\ngates 5\nt-count 7\n\
+cx 2 5\ncx 3 6\nccx 5 6 4\ncx 3 6\ncx 2 5\nend\n%%\n1011000\n";
+
 #[test]
 fn each_read_fails_in_turn(rt: HostRuntime) -> Result<(), AllocError> {
-    for read in 1..=AND.len() as u64 + 1 {
-        let given = cut_short(&rt, NARROW, read, 1000, 0)?;
-        assert_eq!(rt; given.status, Status::ReadFault, "read {read}");
-        assert!(rt; given.text.is_empty(), "read {read}");
+    let table = [(NARROW, AND), ("invert", AND_FILE), ("sim", AND_STATE)];
+    for (line, text) in table {
+        for read in 1..=text.len() as u64 + 1 {
+            let given = cut_short(&rt, line, text, read, 1000, 0)?;
+            assert_eq!(rt; given.status, Status::ReadFault, "{line}: read {read}");
+            assert!(rt; given.text.is_empty(), "{line}: read {read}");
+        }
+        let given = cut_short(&rt, line, text, text.len() as u64 + 2, 1000, 0)?;
+        assert_eq!(rt; given.status, Status::Ok, "{line}");
     }
-    let given = cut_short(&rt, NARROW, AND.len() as u64 + 2, 1000, 0)?;
-    assert_eq!(rt; given.status, Status::Ok);
     // With wrong words nothing is read, so the read that would fail does not come.
-    let given = cut_short(&rt, "compile --word 33 --addr 1 --entry main", 1, 1000, 0)?;
+    let wrong = "compile --word 33 --addr 1 --entry main";
+    let given = cut_short(&rt, wrong, AND, 1, 1000, 0)?;
     assert_eq!(rt; given.status, Status::Usage);
     Ok(())
 }
@@ -259,27 +392,42 @@ fn each_write_fails_in_turn(rt: HostRuntime) -> Result<(), AllocError> {
     // The header, five gates and the last line are one write each.
     let taken = [0, 50, 57, 64, 74, 81, 88];
     for (place, len) in taken.iter().enumerate() {
-        let given = cut_short(&rt, NARROW, 0, 1000, place as u64 + 1)?;
+        let given = cut_short(&rt, NARROW, AND, 0, 1000, place as u64 + 1)?;
         assert_eq!(rt; given.status, Status::WriteFault, "write {place}");
         assert!(rt;
             given.text.as_slice() == &AND_FILE.as_bytes()[..*len],
             "write {place}"
         );
     }
-    // A program is printed by one write.
-    let given = cut_short(&rt, "format", 0, 1000, 1)?;
-    assert_eq!(rt; given.status, Status::WriteFault);
-    assert!(rt; given.text.is_empty());
-    let given = cut_short(&rt, "format", 0, 5, 0)?;
+    // All else is one write.
+    let table = [("format", AND), ("invert", AND_FILE), ("sim", AND_STATE)];
+    for (line, text) in table {
+        let given = cut_short(&rt, line, text, 0, 1000, 1)?;
+        assert_eq!(rt; given.status, Status::WriteFault, "{line}");
+        assert!(rt; given.text.is_empty(), "{line}");
+    }
+    Ok(())
+}
+
+#[test]
+fn room_wants_in_turn(rt: HostRuntime) -> Result<(), AllocError> {
+    let given = cut_short(&rt, "format", AND, 0, 5, 0)?;
     assert_eq!(rt; given.status, Status::WriteFault);
     assert!(rt; given.text.as_slice() == b"fun m".as_slice());
-    for room in 0..AND_FILE.len() {
-        let given = cut_short(&rt, NARROW, 0, room, 0)?;
-        assert_eq!(rt; given.status, Status::WriteFault, "room {room}");
-        assert!(rt;
-            given.text.as_slice() == &AND_FILE.as_bytes()[..room],
-            "room {room}"
-        );
+    let table = [
+        (NARROW, AND, AND_FILE),
+        ("invert", AND_FILE, AND_FILE),
+        ("sim", AND_STATE, "1011100\n"),
+    ];
+    for (line, text, answer) in table {
+        for room in 0..answer.len() {
+            let given = cut_short(&rt, line, text, 0, room, 0)?;
+            assert_eq!(rt; given.status, Status::WriteFault, "{line}: room {room}");
+            assert!(rt;
+                given.text.as_slice() == &answer.as_bytes()[..room],
+                "{line}: room {room}"
+            );
+        }
     }
     Ok(())
 }

@@ -1,17 +1,15 @@
-use Rattle.std.proofs.Common.{ap, subst, Err, refl}
-use Rattle.tw_text.specs.declared.refusal.Refusal.{Refusal}
-use Rattle.tw_text.specs.Refusals.{refusal_line}
-use Rattle.tower.specs.Answer.{Refused}
-use Rattle.tower.specs.Refused.{NoSource, status_of}
-use Rattle.tower.specs.Ending.{Ends, Answers}
-use Rattle.tower.proofs.Endings.{gives_on_tree}
+use Rattle.tower.specs.declared.options.Command.TheVariants as command
+use Rattle.tower.proofs.Endings.{gives_asked}
 use Rattle.tower.proofs.commands.answer.Goals as goal
 
-pub returns-in-Ok : goal.returns-in-Ok
-returns-in-Ok g c = gives_on_tree (record { within = c.requires.within; source = c.in-Ok.ensures.tree }) c.answer_tree.ensures
+pub returns-in-Format : goal.returns-in-Format
+returns-in-Format g c = gives_asked c.args.command command.Format c.args.bytes.now c.in-Format.is c.format.ensures
 
-pub returns-in-Err-Refused : goal.returns-in-Err-Refused
-returns-in-Err-Refused g c =
-    let refusal = c.in-Err-Refused.refusal in
-    Answers (status_of refusal.rule) (refusal_line refusal) (Refused refusal (NoSource c.requires.within (c.in-Err-Refused.ensures.refused refusal (ap Err c.in-Err-Refused.field-0-is))) refl refl)
-    (subst (λ (r : Refusal). Ends g.K.Sink.taken g.K.Sink.faults c.args.output.now c.refuse_source.new.output c.refuse_source.result (status_of r.rule) (refusal_line r)) c.in-Err-Refused.refusal-is c.refuse_source.ensures)
+pub returns-in-Compile : goal.returns-in-Compile
+returns-in-Compile g c = gives_asked c.args.command (command.Compile c.in-Compile.options) c.args.bytes.now c.in-Compile.is c.compile.ensures
+
+pub returns-in-Simulate : goal.returns-in-Simulate
+returns-in-Simulate g c = gives_asked c.args.command command.Simulate c.args.bytes.now c.in-Simulate.is c.simulate.ensures
+
+pub returns-in-Invert : goal.returns-in-Invert
+returns-in-Invert g c = gives_asked c.args.command command.Invert c.args.bytes.now c.in-Invert.is c.invert.ensures

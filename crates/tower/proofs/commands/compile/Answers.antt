@@ -1,17 +1,17 @@
-use Rattle.std.proofs.Common.{sym, refl}
-use Rattle.tw_syntax.specs.Programs.{program_tree}
-use Rattle.tower.specs.declared.status.Status.TheVariants as status
-use Rattle.tower.specs.Answer.{Built, NotBuilt}
-use Rattle.tower.specs.Ending.{Answers}
-use Rattle.tower.specs.Seen.{form_seen}
-use Rattle.tower.proofs.FirstTrees.{form-sound, no_form-complete}
+use Rattle.std.proofs.Common.{ap, subst, Err}
+use Rattle.tw_text.specs.declared.refusal.Refusal.{Refusal}
+use Rattle.tw_text.specs.Refusals.{refusal_line}
+use Rattle.tower.specs.Answer.{FileAnswer}
+use Rattle.tower.specs.Refused.{status_of}
+use Rattle.tower.specs.Ending.{Ends}
+use Rattle.tower.proofs.Endings.{gives_on_program, gives_source_refused}
 use Rattle.tower.proofs.commands.compile.Goals as goal
 
-pub build-requires-clause-right : goal.build-requires-clause-right
-build-requires-clause-right g c = (form-sound (program_tree c.args.program.now).decls (form_seen c.in-Some.form) (sym c.in-Some.ensures)).1
+pub returns-in-Ok : goal.returns-in-Ok
+returns-in-Ok g c = gives_on_program c.args.bytes.now (FileAnswer c.args.options) _ c.requires.within c.in-Ok.ensures.tree c.build_file.ensures
 
-pub returns-in-Some : goal.returns-in-Some
-returns-in-Some g c = Answers status.Ok _ (Built _ (form-sound (program_tree c.args.program.now).decls (form_seen c.in-Some.form) (sym c.in-Some.ensures)).0 refl refl) c.build.ensures
-
-pub returns-in-None : goal.returns-in-None
-returns-in-None g c = Answers status.NotBuilt _ (NotBuilt (no_form-complete (program_tree c.args.program.now).decls (sym c.in-None.ensures)) refl refl) c.refuse.ensures
+pub returns-in-Err-Refused : goal.returns-in-Err-Refused
+returns-in-Err-Refused g c =
+    let refusal = c.in-Err-Refused.refusal in
+    gives_source_refused c.args.bytes.now (FileAnswer c.args.options) refusal c.requires.within (c.in-Err-Refused.ensures.refused refusal (ap Err c.in-Err-Refused.field-0-is))
+    (subst (λ (r : Refusal). Ends g.K.Sink.taken g.K.Sink.faults c.args.output.now c.refuse_source.new.output c.refuse_source.result (status_of r.rule) (refusal_line r)) c.in-Err-Refused.refusal-is c.refuse_source.ensures)
