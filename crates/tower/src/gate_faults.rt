@@ -1,5 +1,6 @@
 //! Refusals of gate files.
 ghost use Rattle.std.specs.Prelude.{◌≤◌, length};
+ghost use Rattle.tw_gatetext.specs.FileLimits.{most_gates};
 ghost use Rattle.tw_gatetext.specs.Files.{plain_file};
 ghost use Rattle.tower.specs.GateAnswers.{GateFaultAnswer, number_behind, bad_gate_text};
 ghost use Rattle.tower.specs.Ending.{Ends, Gives};
@@ -23,7 +24,7 @@ pub fn refuse_gates<K: Sink>(output: &mut K, fault: &GateFault) -> Status
 
 /// Refuses bytes that go on wrongly behind a gate file.
 pub fn refuse_behind<K: Sink>(output: &mut K, file: &GateFile) -> Status
-    requires { length file.now.gates ≤ 4194304 }
+    requires { length file.now.gates ≤ most_gates }
     ensures { Ends K.taken K.faults output.old output.new result Status.BadGateText (bad_gate_text (number_behind (plain_file file.now))) }
 {
     refuse_gate_text(output, file.gates.len() as u32 + 7)

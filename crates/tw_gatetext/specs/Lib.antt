@@ -1,3 +1,4 @@
+pub mod FileLimits
 pub mod Files
 pub mod LineWords
 pub mod Lines

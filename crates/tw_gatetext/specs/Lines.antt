@@ -5,6 +5,7 @@ use Rattle.std.specs.Fmt.{digits}
 use Rattle.tw_gate.specs.declared.gate.Level.{Level}
 use Rattle.tw_gate.specs.declared.gate.Level.TheVariants as levels
 use Rattle.tw_gate.specs.Gates.{PlainGate, X}
+use Rattle.tw_gatetext.specs.FileLimits.{most_wires, most_gates}
 use Rattle.tw_gatetext.specs.Text.{level_word, line, last_line}
 use Rattle.tw_gatetext.specs.Valid.{FitsLevel, FitsWires}
 use Rattle.tw_gatetext.specs.Numerals.{IsNumeral}
@@ -38,9 +39,9 @@ abbrev pub IsRight : Progress → List ℕ → Progress → Type 0
 IsRight AtVersion text next = (text ≡ codes "tower-gates 1\n") × (next ≡ AtLevel)
 IsRight AtLevel text next = (level : Level) × (text ≡ codes "level " ++ (level_word level ++ codes "\n")) × (next ≡ AtWires level)
 IsRight (AtWires level) text next =
-    (wires : ℕ) × (1 ≤ wires) × (wires ≤ 1048576) × (text ≡ codes "wires " ++ (decimal wires ++ codes "\n")) × (next ≡ AtGates level wires)
+    (wires : ℕ) × (1 ≤ wires) × (wires ≤ most_wires) × (text ≡ codes "wires " ++ (decimal wires ++ codes "\n")) × (next ≡ AtGates level wires)
 IsRight (AtGates level wires) text next =
-    (gates : ℕ) × (gates ≤ 4194304) × (text ≡ codes "gates " ++ (decimal gates ++ codes "\n")) × (next ≡ AtTCount level wires gates)
+    (gates : ℕ) × (gates ≤ most_gates) × (text ≡ codes "gates " ++ (decimal gates ++ codes "\n")) × (next ≡ AtTCount level wires gates)
 IsRight (AtTCount level wires gates) text next =
     (t_count : List ℕ) × IsNumeral t_count × (text ≡ codes "t-count " ++ (t_count ++ codes "\n"))
     × (next ≡ InBody (record { level = level; wires = wires; gates = gates; t_count = t_count }) [])

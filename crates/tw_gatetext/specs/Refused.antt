@@ -13,6 +13,7 @@ use Rattle.tw_text.specs.declared.refusal.Refusal.{Refusal}
 use Rattle.tw_text.specs.Places.{first_place}
 use Rattle.tw_gatetext.specs.declared.file.GateFault.{GateFault}
 use Rattle.tw_gatetext.specs.declared.file.GateFault.TheVariants as fault
+use Rattle.tw_gatetext.specs.FileLimits.{most_wires, most_gates, most_controls}
 use Rattle.tw_gatetext.specs.Numerals.{Shows, Word}
 use Rattle.tw_gatetext.specs.Lines.{Progress, AtWires, AtGates, InBody, Whole, Head, StepsTo, Reaches}
 
@@ -24,13 +25,13 @@ pub record Limit : Type 0 where
 
 -- the limit on the controls of a gate is tried at the level of gates with any number of controls
 abbrev pub controls_limit : Level → Option Limit
-controls_limit levels.Mcx = Some (record { word = codes "mcx "; what = counted.Controls; most = 64 })
+controls_limit levels.Mcx = Some (record { word = codes "mcx "; what = counted.Controls; most = most_controls })
 controls_limit level = None
 
 -- the limit on the line that a file has next, where there is one
 abbrev pub limit_at : Progress → Option Limit
-limit_at (AtWires level) = Some (record { word = codes "wires "; what = counted.Wires; most = 1048576 })
-limit_at (AtGates level wires) = Some (record { word = codes "gates "; what = counted.Lines; most = 4194304 })
+limit_at (AtWires level) = Some (record { word = codes "wires "; what = counted.Wires; most = most_wires })
+limit_at (AtGates level wires) = Some (record { word = codes "gates "; what = counted.Lines; most = most_gates })
 limit_at (InBody head gates) = if nat_lt (length gates) head.gates then controls_limit head.level else None
 limit_at progress = None
 

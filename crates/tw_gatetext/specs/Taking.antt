@@ -4,12 +4,13 @@ use Rattle.std.specs.Fmt.{digits}
 use Rattle.std.specs.Borrow.{MutBor}
 use Rattle.tw_io.specs.Devices.{Appends, AppendsFront}
 use Rattle.tw_gate.specs.Gates.{PlainGate, H, HasWiresBelow}
+use Rattle.tw_gatetext.specs.FileLimits.{most_wires}
 use Rattle.tw_gatetext.specs.Text.{lines, HasFewControls}
 
 -- a gate that a file may hold on some number of wires: at most 64 controls, and all wires below 1,048,576
 pub record FitsLine (gate : PlainGate) : Type 0 where
   pub few : HasFewControls gate
-  pub low : HasWiresBelow 1048576 gate
+  pub low : HasWiresBelow most_wires gate
 
 -- the sink took the lines of these gates, and is the same that was lent
 pub record TookLines {K : Type 0} (taken : K → Option (List ℕ)) (old new : MutBor K) (gates : List PlainGate) : Type 0 where

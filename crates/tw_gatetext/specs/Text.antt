@@ -4,6 +4,7 @@ use Rattle.std.specs.Fmt.{digits}
 use Rattle.tw_gate.specs.declared.gate.Level.{Level}
 use Rattle.tw_gate.specs.declared.gate.Level.TheVariants as levels
 use Rattle.tw_gate.specs.Gates.{PlainGate, X, H, T, Tdg, example}
+use Rattle.tw_gatetext.specs.FileLimits.{most_controls}
 
 -- a gate file: which kinds it holds, on how many wires, its T-count, and its gates
 pub record File : Type 0 where
@@ -55,9 +56,9 @@ last_line = codes "end\n"
 unfoldable pub file_text : File → List ℕ
 file_text file = header file.level file.wires (length file.gates) file.t_count ++ (lines file.gates ++ last_line)
 
--- a line has at most 64 controls
+-- a gate has no more controls than a file may have
 abbrev pub HasFewControls : PlainGate → Type 0
-HasFewControls (X controls target) = length controls ≤ 64
+HasFewControls (X controls target) = length controls ≤ most_controls
 HasFewControls _ = Unit {0}
 
 pub spaced-two : spaced (5 ∷ 12 ∷ []) ≡ codes " 5 12"

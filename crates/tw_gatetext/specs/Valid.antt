@@ -5,6 +5,7 @@ use Rattle.tw_gate.specs.declared.gate.Level.{Level}
 use Rattle.tw_gate.specs.declared.gate.Level.TheVariants as levels
 use Rattle.tw_gate.specs.Gates.{PlainGate, X, H, T, Tdg, IsNone}
 use Rattle.tw_gate.specs.Weight.{t_count}
+use Rattle.tw_gatetext.specs.FileLimits.{most_wires, most_gates, most_controls}
 use Rattle.tw_gatetext.specs.Text.{File}
 
 -- each number is below the next one
@@ -15,7 +16,7 @@ Ascends (a ∷ b ∷ rest) = (a < b) × Ascends (b ∷ rest)
 
 -- which kinds of gates a level takes, with how many controls
 abbrev pub FitsLevel : Level → PlainGate → Type 0
-FitsLevel levels.Mcx (X controls target) = length controls ≤ 64
+FitsLevel levels.Mcx (X controls target) = length controls ≤ most_controls
 FitsLevel levels.Tof (X controls target) = length controls ≤ 2
 FitsLevel levels.T (X controls target) = length controls ≤ 1
 FitsLevel levels.T gate = Unit {0}
@@ -31,8 +32,8 @@ FitsWires wires (Tdg wire) = wire < wires
 -- a valid file: its numbers are within their limits, each gate fits, and its T-count is that of its gates
 pub record IsValid (file : File) : Type 0 where
   pub some_wires : 1 ≤ file.wires
-  pub few_wires : file.wires ≤ 1048576
-  pub few_gates : length file.gates ≤ 4194304
+  pub few_wires : file.wires ≤ most_wires
+  pub few_gates : length file.gates ≤ most_gates
   pub fit_level : AllByRecursion (FitsLevel file.level) file.gates
   pub fit_wires : AllByRecursion (FitsWires file.wires) file.gates
   pub counted : file.t_count ≡ t_count file.gates

@@ -2,6 +2,7 @@
 ghost use Rattle.std.specs.Prelude.{◌≡◌, ℕ, ◌≤◌, ◌<◌, ◌^◌, ◌++◌, [], List, codes, decimal, Err, IfSome, IfOk, IfErr};
 ghost use Rattle.std.specs.Option.{IfNone};
 ghost use Rattle.tw_gate.specs.declared.gate.Level.{Level};
+ghost use Rattle.tw_gatetext.specs.FileLimits.{most_wires, most_gates};
 ghost use Rattle.tw_gatetext.specs.Text.{level_word};
 ghost use Rattle.tw_gatetext.specs.Numerals.{IsNumeral};
 ghost use Rattle.tw_gatetext.specs.Lines.{AtVersion, AtLevel, AtWires, AtGates, AtTCount, InBody, StepsTo, Reaches};
@@ -86,7 +87,7 @@ fn counted_number<'b>(limit: &NumberLimit, least: u64, bytes: &'b [u8]) -> Optio
 
 fn wires_line(bytes: &[u8]) -> Result<(u32, &[u8]), LineFault>
     ensures right { IfOk result (λ read. (level : Level) → StepsTo (AtWires level) bytes.now (AtGates level read.0) read.1.now) }
-    ensures within { IfOk result (λ read. (1 ≤ read.0) × (read.0 ≤ 1048576)) }
+    ensures within { IfOk result (λ read. (1 ≤ read.0) × (read.0 ≤ most_wires)) }
     ensures refused { IfErr result (λ why. (level : Level) → IsRefusedLine (AtWires level) bytes.now why) }
 {
     match counted_number(&WIRES, 1, bytes) {
@@ -97,7 +98,7 @@ fn wires_line(bytes: &[u8]) -> Result<(u32, &[u8]), LineFault>
 
 fn gates_line(bytes: &[u8]) -> Result<(u32, &[u8]), LineFault>
     ensures right { IfOk result (λ read. (level : Level) (wires : ℕ) → StepsTo (AtGates level wires) bytes.now (AtTCount level wires read.0) read.1.now) }
-    ensures within { IfOk result (λ read. read.0 ≤ 4194304) }
+    ensures within { IfOk result (λ read. read.0 ≤ most_gates) }
     ensures refused { IfErr result (λ why. (level : Level) (wires : ℕ) → IsRefusedLine (AtGates level wires) bytes.now why) }
 {
     match counted_number(&GATES, 0, bytes) {
@@ -117,7 +118,7 @@ fn t_count_line(bytes: &[u8]) -> Option<(&[u8], &[u8])>
 /// Reads the five header lines: what they tell, and what follows them.
 pub fn read_header(bytes: &[u8]) -> Result<(Header<'_>, &[u8]), GateFault>
     ensures read { IfOk result (λ read. Reaches bytes.now 5 (InBody (head_seen read.0) []) read.1.now) }
-    ensures within { IfOk result (λ read. (1 ≤ read.0.wires) × (read.0.wires ≤ 1048576) × (read.0.gates ≤ 4194304)) }
+    ensures within { IfOk result (λ read. (1 ≤ read.0.wires) × (read.0.wires ≤ most_wires) × (read.0.gates ≤ most_gates)) }
     ensures refused { IfErr result (λ why. IsRefusedText bytes.now why) }
 {
     let Some(rest) = version_line(bytes) else {

@@ -2,6 +2,7 @@
 ghost use Rattle.std.specs.Prelude.{◌≡◌, ℕ, ◌+◌, ◌*◌, ◌≤◌, [], ◌∷◌, ◌++◌, length, codes, decimal};
 ghost use Rattle.arrayvec.specs.ArrayString.{array_string_len};
 ghost use Rattle.tw_gate.specs.Gates.{plain, X};
+ghost use Rattle.tw_gatetext.specs.FileLimits.{most_controls};
 ghost use Rattle.tw_gatetext.specs.Text.{level_word, x_words, spaced, line, header, HasFewControls};
 
 use arrayvec::ArrayString;
@@ -67,7 +68,7 @@ fn push_wire_line(text: &mut Line, word: &str, wire: u32)
 }
 
 fn push_x_line(text: &mut Line, controls: &[u32], target: u32)
-    requires few { length controls.now ≤ 64 }
+    requires few { length controls.now ≤ most_controls }
     requires room { array_string_len text.old ≤ 100 }
     ensures { text.new.bytes ≡ text.old.bytes ++ line (X controls.now target) }
 {

@@ -3,6 +3,7 @@ ghost use Rattle.std.specs.Prelude.{◌≡◌, ◌≢◌, ◌⊎◌, ◌<◌, �
 ghost use Rattle.std.specs.Option.{IfNone};
 ghost use Rattle.tw_gate.specs.Gates.{PlainGate, plain};
 ghost use Rattle.tw_gate.specs.Weight.{gate_weight, t_count};
+ghost use Rattle.tw_gatetext.specs.FileLimits.{most_wires, most_gates};
 ghost use Rattle.tw_gatetext.specs.Text.{File, file_text, HasFewControls};
 ghost use Rattle.tw_gatetext.specs.Valid.{FitsLevel, FitsWires};
 ghost use Rattle.tw_gatetext.specs.LineWords.{letters, numbers_of};
@@ -63,7 +64,7 @@ fn take_gate<'b>(
     bytes: &'b [u8],
     gates: &mut GateList,
 ) -> Result<(u64, &'b [u8]), LineFault>
-    requires few_wires { header.now.wires ≤ 1048576 }
+    requires few_wires { header.now.wires ≤ most_wires }
     requires more { length gates.old < header.now.gates }
     ensures right { IfOk result (λ taken. StepsTo (InBody (head_seen header.now) gates.old) bytes.now (InBody (head_seen header.now) gates.new) taken.1.now) }
     ensures taken { IfOk result (λ taken. (gate : PlainGate) × (gates.new ≡ gates.old ++ gate ∷ []) × (taken.0 ≡ gate_weight gate) × HasFewControls gate) }
@@ -91,8 +92,8 @@ struct Body<'b> {
 
 /// Reads the gate lines behind a header.
 fn read_body<'b>(alloc: Global, header: &Header, bytes: &'b [u8]) -> Result<Body<'b>, GateFault>
-    requires few_wires { header.now.wires ≤ 1048576 }
-    requires few_gates { header.now.gates ≤ 4194304 }
+    requires few_wires { header.now.wires ≤ most_wires }
+    requires few_gates { header.now.gates ≤ most_gates }
     ensures read { IfOk result (λ body. (all : List ℕ) → Reaches all 5 (InBody (head_seen header.now) []) bytes.now
         → Reaches all (5 + header.now.gates) (InBody (head_seen header.now) body.gates) body.rest.now) }
     ensures counted { IfOk result (λ body. (length body.gates ≡ header.now.gates) × (body.t_count ≡ t_count body.gates)) }
