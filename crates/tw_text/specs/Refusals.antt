@@ -1,4 +1,4 @@
--- The lines that tell refusals.
+-- Refusals and diagnostics, and the lines that say them.
 use Rattle.std.specs.Prelude.{◌≡◌, ℕ, List, ◌++◌, codes, decimal, refl}
 use Rattle.std.specs.Fmt.{digits}
 use Rattle.tw_text.specs.declared.place.Pos.{Pos}
@@ -7,6 +7,17 @@ use Rattle.tw_text.specs.declared.refusal.Counted.TheVariants as counted
 use Rattle.tw_text.specs.declared.refusal.Rule.{Rule}
 use Rattle.tw_text.specs.declared.refusal.Rule.TheVariants as rule
 use Rattle.tw_text.specs.declared.refusal.Refusal.{Refusal}
+use Rattle.tw_text.specs.declared.diagnostic.Diagnostic.{Diagnostic}
+use Rattle.tw_text.specs.declared.diagnostic.Diagnostic.TheVariants as diagnostic
+use Rattle.tw_text.specs.Limits.{limit_of}
+
+-- the refusal of what breaks a rule at a place; the rule is no limit and has no numbers
+abbrev pub broken : Rule → Pos → Refusal
+broken rule at = record { rule = rule; at = at; found = 0; limit = 0 }
+
+-- the refusal of what passes a limit, with the count that was found
+abbrev pub passed : Counted → ℕ → Pos → Refusal
+passed counted found at = record { rule = rule.Limit counted; at = at; found = found; limit = limit_of counted }
 
 -- the name of a limit: what it counts
 abbrev pub counted_name : Counted → List ℕ
@@ -47,30 +58,51 @@ rule_name rule.WithNotUndone = codes "with-not-undone"
 rule_name rule.Left = codes "left"
 rule_name (rule.Limit limit) = counted_name limit
 
+-- the line of a refusal by its name alone
+abbrev pub plain_line : List ℕ → List ℕ
+plain_line name = codes "refused " ++ (name ++ codes "\n")
+
+-- the line of a refusal at a line of the input
+abbrev pub number_line : List ℕ → ℕ → List ℕ
+number_line name number = codes "refused " ++ (name ++ (codes " at line " ++ (decimal number ++ codes "\n")))
+
 -- the line of a rule that is broken at a place
-abbrev pub broken_line : List ℕ → Pos → List ℕ
-broken_line name at = codes "refused " ++ (name ++ (codes " at " ++ (decimal at.line ++ (codes ":" ++ (decimal at.col ++ codes "\n")))))
+abbrev pub place_line : List ℕ → Pos → List ℕ
+place_line name at = codes "refused " ++ (name ++ (codes " at " ++ (decimal at.line ++ (codes ":" ++ (decimal at.col ++ codes "\n")))))
 
 -- the line of a limit that is passed
-abbrev pub passed_line : List ℕ → ℕ → ℕ → List ℕ
-passed_line name found limit =
+abbrev pub limit_line : List ℕ → ℕ → ℕ → List ℕ
+limit_line name found limit =
     codes "refused limit " ++ (name ++ (codes " found " ++ (decimal found ++ (codes " limit " ++ (decimal limit ++ codes "\n")))))
 
--- which of the two a rule has
+-- the line of a rule, or of a limit
 abbrev pub rule_line : Rule → Pos → ℕ → ℕ → List ℕ
-rule_line (rule.Limit limit) at found most = passed_line (counted_name limit) found most
-rule_line other at found most = broken_line (rule_name other) at
+rule_line (rule.Limit limit) at found most = limit_line (counted_name limit) found most
+rule_line other at found most = place_line (rule_name other) at
 
--- the line of a refusal
 abbrev pub refusal_line : Refusal → List ℕ
 refusal_line refusal = rule_line refusal.rule refusal.at refusal.found refusal.limit
 
-pub line_of_syntax : refusal_line (record { rule = rule.Syntax; at = record { line = 2; col = 10 }; found = 0; limit = 0 }) ≡ codes "refused syntax at 2:10\n"
+-- the line of a diagnostic
+abbrev pub diagnostic_line : Diagnostic → List ℕ
+diagnostic_line diagnostic.Usage = plain_line (codes "usage")
+diagnostic_line (diagnostic.Refused refusal) = refusal_line refusal
+diagnostic_line (diagnostic.BadGateText line) = number_line (codes "bad-gate-text") line
+diagnostic_line (diagnostic.BitsLength line) = number_line (codes "bits-length") line
+diagnostic_line diagnostic.LevelT = plain_line (codes "level-t")
+diagnostic_line diagnostic.NotBuilt = plain_line (codes "not-built")
+
+pub line_of_syntax : diagnostic_line (diagnostic.Refused (broken rule.Syntax (record { line = 2; col = 10 }))) ≡ codes "refused syntax at 2:10\n"
 unfolding digits
 line_of_syntax = refl
 
-pub line_of_nesting :
-    refusal_line (record { rule = rule.Limit counted.Nesting; at = record { line = 3; col = 5 }; found = 65; limit = 64 })
-    ≡ codes "refused limit nesting found 65 limit 64\n"
+pub line_of_nesting : diagnostic_line (diagnostic.Refused (passed counted.Nesting 65 (record { line = 3; col = 5 }))) ≡ codes "refused limit nesting found 65 limit 64\n"
 unfolding digits
 line_of_nesting = refl
+
+pub line_of_gate_text : diagnostic_line (diagnostic.BadGateText 11) ≡ codes "refused bad-gate-text at line 11\n"
+unfolding digits
+line_of_gate_text = refl
+
+pub line_of_usage : diagnostic_line diagnostic.Usage ≡ codes "refused usage\n"
+line_of_usage = refl

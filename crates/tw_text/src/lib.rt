@@ -1,24 +1,28 @@
-//! Texts: decimal numbers, what stands behind a given front, texts cut in two, places by line and column, why a source is
-//! refused and the line that tells it, and the type of arenas. The definitions of `specs/` say what fronts, runs of digits,
-//! cuts, places and the lines of refusals are, and `proofs/` has their laws.
+//! Texts: decimal numbers, prefixes, places by line and column; the limits, why a request is refused and the line that says
+//! so; and the type of arenas. The definitions of `specs/` say what each of these is, and `proofs/` has their laws.
 #![tactic(auto)]
 
 mod cut;
 mod decimal;
+mod diagnostic;
 mod digits;
 mod front;
+mod limits;
 mod place;
 mod refusal;
-mod refusal_line;
 #[cfg(test)]
 mod tests;
 mod whole;
 
 pub use cut::{before, first_char, text_after};
 pub use decimal::read_decimal;
+pub use diagnostic::{Diagnostic, DiagnosticLine};
 pub use digits::split_digits;
 pub use front::after;
+pub use limits::{
+    CONTROLS_LIMIT, DEPTH_LIMIT, INPUT_LIMIT, LINES_LIMIT, NESTING_LIMIT, STATEMENTS_LIMIT,
+    STATES_LIMIT, WIRES_LIMIT,
+};
 pub use place::{Pos, place_after};
 pub use refusal::{Arena, Counted, Fault, Refusal, Rule};
-pub use refusal_line::RefusalLine;
 pub use whole::whole_decimal;

@@ -1,3 +1,6 @@
+ghost use Rattle.std.specs.Prelude.{◌≡◌};
+ghost use Rattle.tw_text.specs.Refusals.{broken, passed};
+
 use crate::place::Pos;
 use bumpalo::Bump;
 use std::alloc::Global;
@@ -91,11 +94,37 @@ pub struct Refusal {
     pub limit: u64,
 }
 
-/// Why a call has no answer: the source is refused, or memory is wanting.
+impl Refusal {
+    /// The refusal of what breaks a rule at a place. The rule is no limit and has no numbers.
+    pub fn broken(rule: Rule, at: Pos) -> Refusal
+        ensures { result ≡ broken rule at }
+    {
+        Refusal {
+            rule,
+            at,
+            found: 0,
+            limit: 0,
+        }
+    }
+
+    /// The refusal of what passes a limit, with the count that was found. The place of each limit but `Nesting` is 1:1.
+    pub fn passed(counted: Counted, found: u64, at: Pos) -> Refusal
+        ensures { result ≡ passed counted found at }
+    {
+        Refusal {
+            rule: Rule::Limit(counted),
+            at,
+            found,
+            limit: counted.limit(),
+        }
+    }
+}
+
+/// Why a call has no answer: the source is refused, or memory ran out.
 #[derive(Debug, Clone, Copy, PartialEq, Eq, Error)]
 pub enum Fault {
     #[error("the source is refused")]
     Refused(Refusal),
-    #[error("memory is wanting")]
+    #[error("out of memory")]
     Memory,
 }

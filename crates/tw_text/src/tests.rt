@@ -1,4 +1,7 @@
-use crate::{Counted, Pos, Refusal, Rule, after, place_after, read_decimal, split_digits};
+use crate::{
+    Counted, Diagnostic, Fault, Pos, Refusal, Rule, after, place_after, read_decimal, split_digits,
+};
+use std::alloc::AllocError;
 
 #[test]
 fn reads_decimals(rt: HostRuntime) {
@@ -55,34 +58,71 @@ fn places_count_lines_and_characters(rt: HostRuntime) {
 }
 
 #[test]
-fn refusals_have_lines(rt: HostRuntime) {
-    let limit = 134_217_728;
+fn diagnostics_have_lines(rt: HostRuntime) {
+    let at = Pos { line: 1, col: 31 };
+    let literal = Refusal {
+        rule: Rule::LiteralTooWide,
+        at,
+        found: 256,
+        limit: 255,
+    };
+    let input = Refusal::passed(Counted::Input, 134_217_729, at);
     let table = [
-        (Rule::Syntax, 1, 9, 0, 0, "refused syntax at 1:9\n"),
+        (Diagnostic::Usage, "refused usage\n"),
         (
-            Rule::LiteralTooWide,
-            1,
-            31,
-            256,
-            255,
+            Diagnostic::Refused(Refusal::broken(Rule::Syntax, at)),
+            "refused syntax at 1:31\n",
+        ),
+        (
+            Diagnostic::Refused(literal),
             "refused literal-too-wide at 1:31\n",
         ),
         (
-            Rule::Limit(Counted::Input),
-            1,
-            1,
-            limit + 1,
-            limit,
+            Diagnostic::Refused(input),
             "refused limit input found 134217729 limit 134217728\n",
         ),
+        (
+            Diagnostic::BadGateText { line: 11 },
+            "refused bad-gate-text at line 11\n",
+        ),
+        (
+            Diagnostic::BitsLength { line: 1 },
+            "refused bits-length at line 1\n",
+        ),
+        (Diagnostic::LevelT, "refused level-t\n"),
+        (Diagnostic::NotBuilt, "refused not-built\n"),
     ];
-    for (rule, line, col, found, limit, text) in table {
-        let refusal = Refusal {
-            rule,
-            at: Pos { line, col },
-            found,
-            limit,
-        };
-        assert_eq!(rt; refusal.line().as_str(), text);
+    for (diagnostic, line) in table {
+        assert_eq!(rt; diagnostic.line().as_str(), line);
     }
+}
+
+#[test]
+fn limits_are_those_of_the_documents(rt: HostRuntime) {
+    let table = [
+        (Counted::Input, 134_217_728),
+        (Counted::Nesting, 64),
+        (Counted::Statements, 1_000_000),
+        (Counted::Depth, 1_000),
+        (Counted::Controls, 64),
+        (Counted::Wires, 1_048_576),
+        (Counted::Lines, 4_194_304),
+        (Counted::States, 1_024),
+    ];
+    for (counted, limit) in table {
+        assert_eq!(rt; counted.limit(), limit);
+    }
+}
+
+#[test]
+fn errors_have_texts(rt: HostRuntime) -> Result<(), AllocError> {
+    let refusal = Refusal::broken(Rule::Syntax, Pos { line: 1, col: 1 });
+    let table = [
+        (Fault::Refused(refusal), "the source is refused"),
+        (Fault::Memory, "out of memory"),
+    ];
+    for (fault, text) in table {
+        assert_eq!(rt; format!(in rt.alloc(); "{fault}")?.as_str(), text);
+    }
+    Ok(())
 }
