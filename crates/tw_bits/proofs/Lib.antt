@@ -2,3 +2,4 @@ pub mod Laws
 mod Parts
 mod Places
 mod WordNumbers
+pub mod Writings

@@ -2,3 +2,4 @@ pub mod Lists
 pub mod Numbers
 pub mod Operators
 pub mod Words
+pub mod Writing
