@@ -4,8 +4,7 @@ use Rattle.std.specs.List.{AllByRecursion}
 use Rattle.std.proofs.lemmas.Map.Made.{Contains-tail}
 use Rattle.std.proofs.lemmas.Slice.Eq.{bytes_eq-Decides}
 use Rattle.tw_bits.specs.Lists.{bit_at}
-use Rattle.tw_types.specs.declared.widths.Widths.{Widths}
-use Rattle.tw_types.specs.Types.{Ty, Boolean, size}
+use Rattle.tw_types.specs.Types.{Widths, Ty, Boolean, size}
 use Rattle.tw_types.specs.Values.{Truth}
 use Rattle.tw_state.specs.States.{Name, Store}
 use Rattle.tw_state.specs.Programs.{Variable}

@@ -1,3 +1,7 @@
 //! Where a function's variables lie on wires, and what its circuit costs.
 //! The definitions of `specs/` give the layout of the wires and the inventory of the gates, by recursion on the function.
 #![tactic(auto)]
+
+mod regions;
+
+pub use regions::{WireLayout, layout};

@@ -1,18 +1,20 @@
 -- The circuit of a function that is one `&&` does what the function means.
-use Rattle.std.proofs.Common.{◌≡◌, ◌≢◌, ◌∙◌, ℕ, ◌+◌, ◌-◌, Bool, true, false, not, ◌&&◌, if◌then◌else◌, List, [], ◌∷◌, ◌++◌, length, map, flat_map, replicate, Option, Some, None, refl, ap, sym, subst, arith, append_assoc, length-append, Contains}
+use Rattle.std.proofs.Common.{◌≡◌, ◌≢◌, ◌∙◌, ℕ, ◌+◌, Bool, true, false, not, ◌&&◌, if◌then◌else◌, List, [], ◌∷◌, ◌++◌, length, map, flat_map, Option, Some, None, refl, ap, sym, subst, arith, append_assoc, length-append, Contains}
 use Rattle.std.specs.List.{AllByRecursion}
 use Rattle.std.proofs.lemmas.Grind.{flat_map-append}
 use Rattle.tw_bits.specs.Lists.{bit_at}
 use Rattle.tw_gate.specs.Gates.{act, inverse}
-use Rattle.tw_types.specs.declared.widths.Widths.{Widths}
-use Rattle.tw_types.specs.Types.{Target, size}
-use Rattle.tw_types.specs.Values.{Value, Truth, padded}
+use Rattle.tw_types.specs.Types.{Widths, Target, size}
+use Rattle.tw_bits.specs.Writing.{padded}
+use Rattle.tw_bits.proofs.Writings.{padded-by}
+use Rattle.tw_types.specs.Values.{Value, Truth}
 use Rattle.tw_state.specs.States.{Name, State, with_value}
 use Rattle.tw_state.specs.Programs.{And, Function}
 use Rattle.tw_state.specs.Meaning.{operator_value, both_values, Runs}
 use Rattle.tw_state.specs.Typing.{HasVariable, HasResult, variables_at_end}
 use Rattle.tw_state.specs.Encoding.{memory_bits, variable_bits, encoded_at_start, encoded_at_end}
-use Rattle.tw_state.proofs.Renamed.{renames}
+use Rattle.tw_state.proofs.Injective.{encoding-injective}
+use Rattle.tw_state.proofs.Renamed.{renames, well_formed-runs}
 use Rattle.tw_state.proofs.Sizes.{length-memory_bits, length-variable_bits}
 use Rattle.tw_state.proofs.Stores.{variable_bits-given, flat_map-with_value}
 use Rattle.tw_frames.specs.Layout.{scratch_size, layout_of, wire_of}
@@ -47,10 +49,6 @@ pub all_last : {X : Type 0} (P : X → Type 0) (xs : List X) (x : X) → AllByRe
 all_last P [] x all = all.0
 all_last P (other ∷ xs) x all = all_last P xs x all.1
 
--- bits that are followed by so many zeros
-padded-by : (len k : ℕ) (bits : List Bool) → len ≡ length bits + k → padded len bits ≡ bits ++ replicate k false
-padded-by len k bits more = let rest : len - length bits ≡ k = omega arith in rw rest
-
 -- 0 changed by a bit is that bit, and a bit changed by itself is 0
 from_zero : (bit : Bool) → (if bit then not false else false) ≡ bit
 from_zero true = refl
@@ -61,13 +59,13 @@ to_zero true = refl
 to_zero false = refl
 
 -- the gates of the function, written out
-pub function_gates-conjunction : (widths : Widths) (targets : List Target) {function : Function} {left right : Name} → IsConjunction function left right → function_gates widths targets function ≡ and_gates (wire_of widths targets function left) (wire_of widths targets function right) (layout_of widths targets function).result (layout_of widths targets function).scratch
+pub function_gates-conjunction : (widths : Widths) (targets : List Target) {function : Function} {left right : Name} → IsConjunction function left right → function_gates widths targets function ≡ and_gates (wire_of widths targets function left) (wire_of widths targets function right) (layout_of widths targets function).out (layout_of widths targets function).scratch
 function_gates-conjunction widths targets {function} {left} {right} is =
     let wire = wire_of widths targets function in
     let scratch = (layout_of widths targets function).scratch in
     ap (stmt_gates wire scratch) is.body
     ∙ ap (λ (out : ℕ). and_gates (wire left) (wire right) out scratch)
-    (wire_from-behind widths function.result [] function.parameters is.fresh (layout_of widths targets function).arguments)
+    (wire_from-behind widths function.result [] function.parameters is.fresh (layout_of widths targets function).args)
 
 -- the circuit reads the same in both directions
 pub inverse-conjunction : (widths : Widths) (targets : List Target) {function : Function} {left right : Name} → IsConjunction function left right → inverse (function_gates widths targets function) ≡ function_gates widths targets function
@@ -99,7 +97,7 @@ module _ {widths : Widths} {targets : List Target} {function : Function} {left r
   front = memory_bits widths targets start ++ flat_map (variable_bits widths start.store) function.parameters
 
   -- they reach up to the result
-  length_front : length front ≡ (layout_of widths targets function).result
+  length_front : length front ≡ (layout_of widths targets function).out
   unfolding front
   length_front =
       rw (length-append, length-memory_bits does.typed_at_start, length-variables_bits widths start.store function.parameters does.typed_at_start.holds.each)
@@ -156,7 +154,7 @@ module _ {widths : Widths} {targets : List Target} {function : Function} {left r
       rw (function_gates-conjunction widths targets is)
       (act-and_gates front (wire_of widths targets function left) (wire_of widths targets function right) conjoined.x conjoined.y
       (reads left conjoined.x is.left_known conjoined.left_is) (reads right conjoined.y is.right_known conjoined.right_is)
-      layout.result layout.scratch (sym length_front) behind bit)
+      layout.out layout.scratch (sym length_front) behind bit)
 
   -- the circuit takes the bits at the start to those at the end
   takes : act (function_gates widths targets function) (encoded_at_start (layout_of widths targets function).wires widths targets function start) ≡ encoded_at_end (layout_of widths targets function).wires widths targets function end
@@ -170,10 +168,13 @@ module _ {widths : Widths} {targets : List Target} {function : Function} {left r
 
 -- the circuit of a function that is one `&&` does what the function means
 pub implements : {widths : Widths} {targets : List Target} {function : Function} {left right : Name} → IsConjunction function left right → Implements widths targets function (layout_of widths targets function).wires (function_gates widths targets function)
-implements is = record {
+implements {widths} {targets} {function} is = record {
   at_start = λ start end does. start_fills is does;
   at_end = λ start end does. end_fills is does;
   takes = λ start end does. takes is does;
   undoes = λ start end does. undoes is does;
   renames = λ pi start end does. let moved = renames pi does in (moved, takes is moved);
+  injective_at_start = encoding-injective _ widths targets function.parameters;
+  injective_at_end = encoding-injective _ widths targets (variables_at_end function);
+  result_well_formed = λ start end does. well_formed-runs widths function.body start end does.runs does.well_formed;
 }

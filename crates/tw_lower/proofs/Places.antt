@@ -4,8 +4,7 @@ use Rattle.std.proofs.Math.Nat.{pow-le-pow_right}
 use Rattle.std.proofs.lemmas.Nat.{mul-le}
 use Rattle.std.specs.List.{AllByRecursion}
 use Rattle.tw_gate.specs.Weight.{t_count}
-use Rattle.tw_types.specs.declared.widths.Widths.{Widths}
-use Rattle.tw_types.specs.Types.{Boolean, Target}
+use Rattle.tw_types.specs.Types.{Widths, Boolean, Target}
 use Rattle.tw_state.specs.States.{Name}
 use Rattle.tw_state.specs.Programs.{Function}
 use Rattle.tw_state.specs.Typing.{variables_at_end}
@@ -23,14 +22,14 @@ all_before P (other ∷ xs) x all = (all.0, all_before P xs x all.1)
 
 -- where the variables lie, without targets
 pub record Places (widths : Widths) (function : Function) (left right : Name) : Type 0 where
-  pub arguments_at : (layout_of widths [] function).arguments ≡ widths.addr + (2 ^ widths.addr - 1) * widths.addr
-  pub result_at : (layout_of widths [] function).result ≡ (layout_of widths [] function).arguments + length function.parameters
-  pub scratch_at : (layout_of widths [] function).scratch ≡ (layout_of widths [] function).result + 1
-  pub wires_at : (layout_of widths [] function).wires ≡ (layout_of widths [] function).result + 3
-  pub left_from : (layout_of widths [] function).arguments ≤ wire_of widths [] function left
-  pub left_below : wire_of widths [] function left < (layout_of widths [] function).result
-  pub right_from : (layout_of widths [] function).arguments ≤ wire_of widths [] function right
-  pub right_below : wire_of widths [] function right < (layout_of widths [] function).result
+  pub arguments_at : (layout_of widths [] function).args ≡ widths.addr + (2 ^ widths.addr - 1) * widths.addr
+  pub result_at : (layout_of widths [] function).out ≡ (layout_of widths [] function).args + length function.parameters
+  pub scratch_at : (layout_of widths [] function).scratch ≡ (layout_of widths [] function).out + 1
+  pub wires_at : (layout_of widths [] function).wires ≡ (layout_of widths [] function).out + 3
+  pub left_from : (layout_of widths [] function).args ≤ wire_of widths [] function left
+  pub left_below : wire_of widths [] function left < (layout_of widths [] function).out
+  pub right_from : (layout_of widths [] function).args ≤ wire_of widths [] function right
+  pub right_below : wire_of widths [] function right < (layout_of widths [] function).out
 
 -- the places of the variables, where all of them are truth values
 pub places : (widths : Widths) {function : Function} {left right : Name} → IsConjunction function left right → AreBoolean (variables_at_end function) → Places widths function left right
@@ -38,12 +37,12 @@ places widths {function} {left} {right} is booleans =
     let layout = layout_of widths [] function in
     let parameters = all_before (λ variable. variable.ty ≡ Boolean) function.parameters function.result booleans in
     let one = size-truth widths (all_last (λ variable. variable.ty ≡ Boolean) function.parameters function.result booleans) in
-    let left_within = wire_from-within widths (function.result ∷ []) left function.parameters parameters is.left_known layout.arguments in
-    let right_within = wire_from-within widths (function.result ∷ []) right function.parameters parameters is.right_known layout.arguments in
+    let left_within = wire_from-within widths (function.result ∷ []) left function.parameters parameters is.left_known layout.args in
+    let right_within = wire_from-within widths (function.result ∷ []) right function.parameters parameters is.right_known layout.args in
     record {
       arguments_at = refl;
-      result_at = ap (λ (n : ℕ). layout.arguments + n) (variables_size-length widths function.parameters parameters);
-      scratch_at = ap (λ (n : ℕ). layout.result + n) one;
+      result_at = ap (λ (n : ℕ). layout.args + n) (variables_size-length widths function.parameters parameters);
+      scratch_at = ap (λ (n : ℕ). layout.out + n) one;
       wires_at = omega (arith, one, ap scratch_size is.body);
       left_from = left_within.0;
       left_below = left_within.1;

@@ -1,8 +1,7 @@
 -- The gates of statements on the wires of the layout.
 use Rattle.std.specs.Prelude.{◌≡◌, ℕ, ◌+◌, List, [], ◌∷◌, ◌++◌, codes, refl}
 use Rattle.tw_gate.specs.Gates.{PlainGate, X, inverse}
-use Rattle.tw_types.specs.declared.widths.Widths.{Widths}
-use Rattle.tw_types.specs.Types.{Target}
+use Rattle.tw_types.specs.Types.{Widths, Target}
 use Rattle.tw_state.specs.States.{Name}
 use Rattle.tw_state.specs.Programs.{Atom, Var, And, Expr, Binary, Stmt, Skip, Then, Let, Function}
 use Rattle.tw_state.specs.Examples.{one_bit, truth, conjunction, main}

@@ -24,7 +24,7 @@ links_within cells address (block ∷ chain) links =
     ((cell_at_within cells block (Free links.1.0) links.1.1).1, links_within cells links.1.0 chain links.1.2)
 
 -- the count of a block, one step on
-abbrev counted : ℕ → ℕ → ℕ → ℕ
+abbrev pub counted : ℕ → ℕ → ℕ → ℕ
 counted block n passed = n + cond (passed == block) 1 0
 
 module _ {blocks : ℕ} (pi : Permutation blocks) where

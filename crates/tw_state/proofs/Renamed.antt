@@ -1,12 +1,11 @@
 -- What a function does to a state, it does to the renamed state.
-use Rattle.std.proofs.Common.{◌≡◌, ℕ, zero, suc, Bool, true, false, if◌then◌else◌, List, length, Option, Some, None, option_map, unwrap_or, refl, ap, ◌∙◌, arith, bytes_eq}
+use Rattle.std.proofs.Common.{◌≡◌, ℕ, zero, suc, Bool, true, false, if◌then◌else◌, List, length, Option, Some, None, option_map, unwrap_or, refl, ap, sym, subst, ◌∙◌, arith, bytes_eq}
 use Rattle.std.proofs.Math.Path.{fun_ext}
 use Rattle.std.specs.List.{AllByRecursion}
 use Rattle.std.proofs.lemmas.List.FromFn.{length-map-range_with_len}
-use Rattle.tw_types.specs.declared.widths.Widths.{Widths}
-use Rattle.tw_types.specs.Types.{Ty, UnitTy, Word, Boolean, Pointer, PairTy, Target, block_count}
+use Rattle.tw_types.specs.Types.{Widths, Ty, UnitTy, Word, Boolean, Pointer, PairTy, Target, block_count}
 use Rattle.tw_types.specs.Values.{Value, UnitValue, Number, Truth, Address, PairValue, HasType}
-use Rattle.tw_state.specs.States.{Name, Cell, Free, Live, Store, State, cell_at, with_value}
+use Rattle.tw_state.specs.States.{Name, Cell, Free, Live, Store, State, IsWellFormed, cell_at, with_value}
 use Rattle.tw_state.specs.Programs.{Var, Operator, And, Expr, Binary, Stmt, Skip, Then, Let, Variable, Function}
 use Rattle.tw_state.specs.Meaning.{operator_value, both_values, Assigns, Runs}
 use Rattle.tw_state.specs.Typing.{IsCell, Holds, IsTyped, HasResult, variables_at_end}
@@ -88,6 +87,14 @@ module _ (widths : Widths) (pi : Permutation (block_count widths)) where
     cell_typed_at : (targets : List Target) (state : State) → AllByRecursion (IsCell widths targets) state.cells → (block : ℕ) → IsCell widths targets (unwrap_or (cell_at state.cells block) (Free 0))
     cell_typed_at targets state all zero = omega arith
     cell_typed_at targets state all (suc i) = all_at (IsCell widths targets) (Free 0) (omega arith) state.cells all i
+
+-- a well-formed state is well-formed after a statement
+pub well_formed-runs : (widths : Widths) (stmt : Stmt) (old new : State) → Runs widths stmt old new → IsWellFormed old → IsWellFormed new
+well_formed-runs widths Skip old new runs formed = subst IsWellFormed (sym runs) formed
+well_formed-runs widths (Then first rest) old new runs formed =
+    well_formed-runs widths rest runs.0 new runs.2 (well_formed-runs widths first old runs.0 runs.1 formed)
+well_formed-runs widths (Let name expr) old new runs formed =
+    subst IsWellFormed (sym runs.after) (record { chain = formed.chain; links = formed.links; once = formed.once })
 
 -- the result of a function on the renamed state is the renamed result
 pub renames : {widths : Widths} {targets : List Target} {function : Function} {start end : State} (pi : Permutation (block_count widths)) → HasResult widths targets function start end → HasResult widths targets function (renamed pi start) (renamed pi end)

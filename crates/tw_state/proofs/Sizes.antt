@@ -1,27 +1,27 @@
 -- How many bits the memory and the variables of a typed state have.
-use Rattle.std.proofs.Common.{◌≡◌, ℕ, ◌+◌, ◌*◌, ◌≤◌, max, Bool, true, false, if◌then◌else◌, List, [], ◌∷◌, length, flat_map, Some, arith, length-append, suc-mul, bytes_eq}
+use Rattle.std.proofs.Common.{◌≡◌, ℕ, zero, suc, ◌+◌, ◌*◌, ◌≤◌, List, [], ◌∷◌, length, flat_map, Some, arith, length-append, suc-mul}
 use Rattle.std.specs.List.{AllByRecursion}
-use Rattle.tw_types.specs.declared.widths.Widths.{Widths}
-use Rattle.tw_types.specs.Types.{Ty, Target, size, block_count, block_size}
+use Rattle.tw_types.specs.Types.{Widths, Ty, Target, size, block_count, block_size}
 use Rattle.tw_bits.specs.Numbers.{number_bits}
 use Rattle.tw_bits.proofs.Laws.{length-number_bits}
+use Rattle.tw_types.specs.Table.{ty_at}
 use Rattle.tw_types.specs.Values.{value_bits}
-use Rattle.tw_types.proofs.Lengths.{length-value_bits, length-padded, addr-le-block_size}
+use Rattle.tw_bits.proofs.Writings.{length-padded}
+use Rattle.tw_types.proofs.Lengths.{length-value_bits, addr-le-block_size}
 use Rattle.tw_state.specs.States.{Cell, Free, Live, Store, State}
 use Rattle.tw_state.specs.Programs.{Variable}
-use Rattle.tw_state.specs.Typing.{target_type, IsCell, HasVariable, IsTyped}
+use Rattle.tw_state.specs.Typing.{IsCell, HasVariable, IsTyped}
 use Rattle.tw_state.specs.Encoding.{cell_bits, memory_bits, variable_bits}
 
 -- a target's type fits into a block
-size-le-block_size : (widths : Widths) (targets : List Target) (written : List ℕ) (ty : Ty) → target_type targets written ≡ Some ty → size widths ty ≤ block_size widths targets
-size-le-block_size widths [] written ty known = cc
-size-le-block_size widths (target ∷ targets) written ty known = by (bytes_eq target.written written) known (size-le-block_size widths targets written ty) where
-  by : (test : Bool) → (if test then Some target.ty else target_type targets written) ≡ Some ty → (target_type targets written ≡ Some ty → size widths ty ≤ block_size widths targets) → size widths ty ≤ max (size widths target.ty) (block_size widths targets)
-  by true found deeper = let same : target.ty ≡ ty = cc in rw (← same) (omega arith)
-  by false found deeper = let rest = deeper found in omega arith
+size-le-block_size : (widths : Widths) (targets : List Target) (place : ℕ) (ty : Ty) → ty_at targets place ≡ Some ty → size widths ty ≤ block_size widths targets
+size-le-block_size widths [] place ty known = cc
+size-le-block_size widths (target ∷ targets) zero ty known = let same : target.ty ≡ ty = cc in rw (← same) (omega arith)
+size-le-block_size widths (target ∷ targets) (suc place) ty known =
+    let rest = size-le-block_size widths targets place ty known in omega arith
 
 -- a cell of the program fills its block
-length-cell_bits : (widths : Widths) (targets : List Target) (cell : Cell) → IsCell widths targets cell → length (cell_bits widths targets cell) ≡ block_size widths targets
+pub length-cell_bits : (widths : Widths) (targets : List Target) (cell : Cell) → IsCell widths targets cell → length (cell_bits widths targets cell) ≡ block_size widths targets
 length-cell_bits widths targets (Free next) is =
     length-padded (block_size widths targets) (number_bits widths.addr next)
     (rw (length-number_bits widths.addr next) (addr-le-block_size widths targets))

@@ -2,7 +2,7 @@
 use Rattle.std.proofs.Common.{◌≡◌, ◌≢◌, Bool, true, false, List, [], ◌∷◌, flat_map, refl, sym, bytes_eq}
 use Rattle.std.specs.List.{AllByRecursion}
 use Rattle.std.proofs.lemmas.Slice.Eq.{bytes_eq-Decides}
-use Rattle.tw_types.specs.declared.widths.Widths.{Widths}
+use Rattle.tw_types.specs.Types.{Widths}
 use Rattle.tw_types.specs.Values.{Value, value_bits}
 use Rattle.tw_state.specs.States.{Name, Store, with_value}
 use Rattle.tw_state.specs.Programs.{Variable}

@@ -1,10 +1,11 @@
 -- Worked examples that take more than computing: a well-formed state, the result of a function, and renamed blocks.
 use Rattle.std.proofs.Common.{◌≡◌, ℕ, zero, suc, ◌≤◌, ◌==◌, true, List, [], ◌∷◌, count_by, Some, refl, arith, codes}
 use Rattle.tw_types.specs.Values.{Number, Truth, Address, PairValue}
-use Rattle.tw_state.specs.States.{Free, Links, IsWellFormed, cell_at, empty}
+use Rattle.tw_state.specs.States.{Free, Live, Links, IsWellFormed, cell_at, empty}
 use Rattle.tw_state.specs.Typing.{Holds, HasResult}
 use Rattle.tw_state.specs.Renaming.{Permutation, renamed_value, renamed}
 use Rattle.tw_state.specs.Examples.{one_bit, main, operands, start, end}
+use Rattle.tw_state.specs.Encoding.{one_live}
 use Rattle.tw_state.proofs.Stores.{bytes_eq-apart}
 
 -- the one free cell is passed once
@@ -24,7 +25,7 @@ lost_cell_is_not_well_formed formed = lost formed.chain formed.links (formed.onc
   lost (suc i ∷ chain) links once = absurd (omega (arith, links.0))
 
 -- the parameters and nothing else
-start_holds : Holds one_bit main.parameters operands
+start_holds : Holds one_bit main.parameters (operands true true)
 start_holds = record {
   each = ((Truth true, refl, tt), ((Truth true, refl, tt), tt));
   no_other = λ name apart. rw (bytes_eq-apart (codes "b") name apart.1.0, bytes_eq-apart (codes "a") name apart.0);
@@ -105,6 +106,19 @@ turned = record {
 pub chain_turned : renamed turned (record { head = 2; cells = Free 0 ∷ Free 3 ∷ Free 1 ∷ []; store = empty }) ≡ record { head = 1; cells = Free 2 ∷ Free 3 ∷ Free 0 ∷ []; store = empty }
 unfolding turned
 chain_turned = refl
+
+-- `free 3; 1 live list (2, @1); 2 free 0; 3 free 2` becomes `free 2; 1 free 0; 2 free 1; 3 live list (2, @3)`, and xs becomes @3
+pub live_cell_turned : (renamed turned one_live).cells ≡ Free 0 ∷ Free 1 ∷ Live 0 (PairValue (Number 2) (Address 3)) ∷ []
+unfolding turned
+live_cell_turned = refl
+
+pub head_turned : (renamed turned one_live).head ≡ 2
+unfolding turned
+head_turned = refl
+
+pub pointer_turned : (renamed turned one_live).store (codes "xs") ≡ Some (Address 3)
+unfolding turned
+pointer_turned = refl
 
 -- `(2, (&2, null))` becomes `(2, (&1, null))`: addresses are renamed, also in pairs, and numbers stay
 pub addresses_turned : renamed_value turned.to (PairValue (Number 2) (PairValue (Address 2) (Address 0))) ≡ PairValue (Number 2) (PairValue (Address 1) (Address 0))

@@ -1,13 +1,13 @@
--- The bits of a state.
-use Rattle.std.specs.Prelude.{ℕ, Bool, List, [], ◌++◌, unwrap_or, option_map}
+-- The bits of a state, and what they determine.
+use Rattle.std.specs.Prelude.{◌≡◌, ℕ, Bool, true, false, List, [], ◌∷◌, ◌++◌, unwrap_or, option_map, codes, refl}
 use Rattle.std.specs.List.{flat_map}
-use Rattle.tw_types.specs.declared.widths.Widths.{Widths}
-use Rattle.tw_types.specs.Types.{Target, block_size}
 use Rattle.tw_bits.specs.Numbers.{number_bits}
-use Rattle.tw_types.specs.Values.{value_bits, padded}
-use Rattle.tw_state.specs.States.{Cell, Free, Live, Store, State}
+use Rattle.tw_bits.specs.Writing.{padded}
+use Rattle.tw_types.specs.Types.{Widths, Word, Boolean, Pointer, PairTy, Target, block_size}
+use Rattle.tw_types.specs.Values.{Number, Truth, Address, PairValue, value_bits}
+use Rattle.tw_state.specs.States.{Cell, Free, Live, Store, State, IsWellFormed, empty, with_value}
 use Rattle.tw_state.specs.Programs.{Variable, Function}
-use Rattle.tw_state.specs.Typing.{variables_at_end}
+use Rattle.tw_state.specs.Typing.{IsTyped, variables_at_end}
 
 -- a cell in the bits of a block: its link or its value, then zeros
 abbrev pub cell_bits : Widths → List Target → Cell → List Bool
@@ -34,3 +34,50 @@ encoded_at_start wires widths targets function = encoded wires widths targets fu
 -- the encoding at its end: its parameters, and its result
 abbrev pub encoded_at_end : ℕ → Widths → List Target → Function → State → List Bool
 encoded_at_end wires widths targets function = encoded wires widths targets (variables_at_end function)
+
+-- two cells are both free with one link, or both live, where cells of one target have one value
+abbrev pub CellsAgree : List Cell → List Cell → Type 0
+CellsAgree [] [] = Unit {0}
+CellsAgree (Free next ∷ cells) (Free other ∷ others) = (next ≡ other) × CellsAgree cells others
+CellsAgree (Live target value ∷ cells) (Live other_target other ∷ others) = (target ≡ other_target → value ≡ other) × CellsAgree cells others
+CellsAgree cells others = ⊥
+
+-- two states are equal but for the targets of live cells, which have no bits
+pub record Agree (state other : State) : Type 0 where
+  pub head : state.head ≡ other.head
+  pub cells : CellsAgree state.cells other.cells
+  pub store : state.store ≡ other.store
+
+-- the encoding is injective: typed, well-formed states with equal bits are equal but for the targets of live cells
+abbrev pub IsInjective : ℕ → Widths → List Target → List Variable → Type 0
+IsInjective wires widths targets variables = (state other : State) → IsWellFormed state → IsWellFormed other → IsTyped widths targets variables state → IsTyped widths targets variables other → encoded wires widths targets variables state ≡ encoded wires widths targets variables other → Agree state other
+
+-- words and addresses of two bits
+abbrev pub two_bits : Widths
+two_bits = record { word = 2; addr = 2 }
+
+-- the targets `(uint, ptr<list>)`, written `list`, and `bool`, so blocks of four bits
+abbrev pub list_and_bool : List Target
+list_and_bool = record { written = codes "list"; ty = PairTy Word (Pointer 0) } ∷ record { written = codes "bool"; ty = Boolean } ∷ []
+
+-- `1 live list (2, @1)` is 0110
+pub live_list : cell_bits two_bits list_and_bool (Live 0 (PairValue (Number 2) (Address 1))) ≡ false ∷ true ∷ true ∷ false ∷ []
+live_list = refl
+
+-- `1 live bool true` is 1000
+pub live_bool : cell_bits two_bits list_and_bool (Live 1 (Truth true)) ≡ true ∷ false ∷ false ∷ false ∷ []
+live_bool = refl
+
+-- `free 3; 1 live list (2, @1); 2 free 0; 3 free 2; xs @1`
+abbrev pub one_live : State
+one_live = record {
+  head = 3;
+  cells = Live 0 (PairValue (Number 2) (Address 1)) ∷ Free 0 ∷ Free 2 ∷ [];
+  store = with_value empty (codes "xs") (Address 1);
+}
+
+-- is 11 0110 0000 0100 10 and a zero on 17 wires
+pub one_live_on_17_wires :
+    encoded 17 two_bits list_and_bool (record { name = codes "xs"; ty = Pointer 0 } ∷ []) one_live
+    ≡ true ∷ true ∷ false ∷ true ∷ true ∷ false ∷ false ∷ false ∷ false ∷ false ∷ false ∷ true ∷ false ∷ false ∷ true ∷ false ∷ false ∷ []
+one_live_on_17_wires = refl

@@ -1,7 +1,6 @@
 -- Worked examples of states, their meaning and their encoding.
-use Rattle.std.specs.Prelude.{◌≡◌, true, false, List, [], ◌∷◌, Some, None, codes, refl}
-use Rattle.tw_types.specs.declared.widths.Widths.{Widths}
-use Rattle.tw_types.specs.Types.{Boolean}
+use Rattle.std.specs.Prelude.{◌≡◌, Bool, true, false, List, [], ◌∷◌, Some, None, codes, refl}
+use Rattle.tw_types.specs.Types.{Widths, Boolean}
 use Rattle.tw_types.specs.Values.{Truth}
 use Rattle.tw_state.specs.States.{Name, Free, Store, State, empty, with_value, cell_at}
 use Rattle.tw_state.specs.Programs.{Var, And, Binary, Skip, Then, Let, Variable, Function}
@@ -28,22 +27,25 @@ conjunction parameters left right = record {
 abbrev pub main : Function
 main = conjunction (truth (codes "a") ∷ truth (codes "b") ∷ []) (codes "a") (codes "b")
 
--- `a true; b true`
-abbrev pub operands : Store
-operands = with_value (with_value empty (codes "a") (Truth true)) (codes "b") (Truth true)
+-- the values of a and b
+abbrev pub operands : Bool → Bool → Store
+operands a b = with_value (with_value empty (codes "a") (Truth a)) (codes "b") (Truth b)
 
 -- `free 1; 1 free 0; a true; b true`
 abbrev pub start : State
-start = record { head = 1; cells = Free 0 ∷ []; store = operands }
+start = record { head = 1; cells = Free 0 ∷ []; store = operands true true }
 
 -- `free 1; 1 free 0; a true; b true; c true`
 abbrev pub end : State
-end = record { head = 1; cells = Free 0 ∷ []; store = with_value operands (codes "c") (Truth true) }
+end = record { head = 1; cells = Free 0 ∷ []; store = with_value (operands true true) (codes "c") (Truth true) }
 
-pub value_of_a : operands (codes "a") ≡ Some (Truth true)
+pub value_of_a : operands true false (codes "a") ≡ Some (Truth true)
 value_of_a = refl
 
-pub no_value_of_d : operands (codes "d") ≡ None
+pub value_of_b : operands true false (codes "b") ≡ Some (Truth false)
+value_of_b = refl
+
+pub no_value_of_d : operands true false (codes "d") ≡ None
 no_value_of_d = refl
 
 pub cell_of_block_1 : cell_at start.cells 1 ≡ Some (Free 0)
@@ -55,15 +57,22 @@ no_cell_of_null = refl
 pub no_cell_past_the_end : cell_at start.cells 2 ≡ None
 no_cell_past_the_end = refl
 
-pub both_true : expr_value one_bit operands (Binary And (Var (codes "a")) (Var (codes "b"))) ≡ Some (Truth true)
+pub both_true : expr_value one_bit (operands true true) (Binary And (Var (codes "a")) (Var (codes "b"))) ≡ Some (Truth true)
 both_true = refl
 
-pub no_value_without_operand : expr_value one_bit operands (Binary And (Var (codes "a")) (Var (codes "d"))) ≡ None
+pub one_false : expr_value one_bit (operands true false) (Binary And (Var (codes "a")) (Var (codes "b"))) ≡ Some (Truth false)
+one_false = refl
+
+pub no_value_without_operand : expr_value one_bit (operands true true) (Binary And (Var (codes "a")) (Var (codes "d"))) ≡ None
 no_value_without_operand = refl
 
 -- 1011000
 pub start_on_7_wires : encoded_at_start 7 one_bit [] main start ≡ true ∷ false ∷ true ∷ true ∷ false ∷ false ∷ false ∷ []
 start_on_7_wires = refl
+
+-- with b false: 1010000
+pub operands_in_order : encoded_at_start 7 one_bit [] main (record start { store = operands true false }) ≡ true ∷ false ∷ true ∷ false ∷ false ∷ false ∷ false ∷ []
+operands_in_order = refl
 
 -- 1011100
 pub end_on_7_wires : encoded_at_end 7 one_bit [] main end ≡ true ∷ false ∷ true ∷ true ∷ true ∷ false ∷ false ∷ []

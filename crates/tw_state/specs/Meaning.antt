@@ -1,6 +1,6 @@
 -- What expressions are worth in a store, and what statements do to a state.
 use Rattle.std.specs.Prelude.{◌≡◌, ◌&&◌, Option, Some, None}
-use Rattle.tw_types.specs.declared.widths.Widths.{Widths}
+use Rattle.tw_types.specs.Types.{Widths}
 use Rattle.tw_types.specs.Values.{Value, Truth}
 use Rattle.tw_state.specs.States.{Name, Store, State, with_value}
 use Rattle.tw_state.specs.Programs.{Atom, Var, Operator, And, Expr, Binary, Stmt, Skip, Then, Let}

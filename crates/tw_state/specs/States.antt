@@ -7,10 +7,10 @@ use Rattle.tw_types.specs.Values.{Value}
 abbrev pub Name : Type 0
 Name = List ℕ
 
--- a cell: free, with the address of the next free cell, or live, with its target as written and its value
+-- a cell: free, with the address of the next free cell, or live, with its target's number and its value
 pub data Cell : Type 0 where
   Free : (next : ℕ) → Cell
-  Live : (target : List ℕ) (value : Value) → Cell
+  Live : (target : ℕ) (value : Value) → Cell
 
 -- which value each name has
 abbrev pub Store : Type 0

@@ -1,24 +1,17 @@
 -- Which states fit the beginning and the end of a function, and what its result on a state is.
-use Rattle.std.specs.Prelude.{◌≡◌, ◌≢◌, ℕ, if◌then◌else◌, ◌≤◌, Option, Some, None, List, [], ◌∷◌, ◌++◌, length}
+use Rattle.std.specs.Prelude.{◌≡◌, ◌≢◌, ◌≤◌, Some, None, List, [], ◌∷◌, ◌++◌, length}
 use Rattle.std.specs.List.{AllByRecursion}
-use Rattle.std.specs.Str.{bytes_eq}
-use Rattle.tw_types.specs.declared.widths.Widths.{Widths}
-use Rattle.tw_types.specs.Types.{Ty, Target, block_count}
+use Rattle.tw_types.specs.Types.{Widths, Ty, Target, block_count}
 use Rattle.tw_types.specs.Values.{Value, HasType}
+use Rattle.tw_types.specs.Table.{ty_at}
 use Rattle.tw_state.specs.States.{Name, Cell, Free, Live, Store, State, IsWellFormed}
 use Rattle.tw_state.specs.Programs.{Variable, Function}
 use Rattle.tw_state.specs.Meaning.{Runs}
 
--- the type of a target of the program, by how it is written
-abbrev pub target_type : List Target → List ℕ → Option Ty
-target_type [] written = None
-target_type (target ∷ targets) written =
-    if bytes_eq target.written written then Some target.ty else target_type targets written
-
--- a free cell links to a block or to 0; a live cell has a target of the program and a value of its type
+-- a free cell links to a block or to 0; a live cell has the number of a target and a value of that target's type
 abbrev pub IsCell : Widths → List Target → Cell → Type 0
 IsCell widths targets (Free next) = next ≤ block_count widths
-IsCell widths targets (Live target value) = (ty : Ty) × (target_type targets target ≡ Some ty) × HasType widths value ty
+IsCell widths targets (Live target value) = (ty : Ty) × (ty_at targets target ≡ Some ty) × HasType widths value ty
 
 -- the store has this variable, with a value of its type
 abbrev pub HasVariable : Widths → Store → Variable → Type 0

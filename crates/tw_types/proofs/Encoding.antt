@@ -1,70 +1,81 @@
--- For each type the encoding of its values is one to one, and onto the lists of bits of its size.
-use Rattle.std.proofs.Common.{◌≡◌, ◌∙◌, ℕ, ◌+◌, ◌^◌, ◌<◌, ◌≤◌, Bool, List, [], ◌∷◌, length, take, drop, refl, ap, sym, arith, length-drop}
-use Rattle.std.proofs.lemmas.List.{take-append-drop, length-take-le}
+-- The encoding of a type's values is injective, and its bits are read and written part by part.
+use Rattle.std.proofs.Common.{◌≡◌, ◌∙◌, ℕ, zero, suc, ◌+◌, ◌^◌, ◌<◌, ◌≤◌, Bool, List, [], ◌∷◌, ◌++◌, length, take, drop, refl, ap, sym, arith}
+use Rattle.std.proofs.lemmas.List.{take-append-drop}
 use Rattle.std.proofs.lemmas.Nat.{pow_pos}
 use Rattle.std.proofs.Math.Seq.{take-append_seam, drop-append_seam}
-use Rattle.tw_bits.specs.Numbers.{number_bits, bits_number}
-use Rattle.tw_bits.proofs.Laws.{bits_number-number_bits, number_bits-bits_number, bits_number-lt}
-use Rattle.tw_types.specs.declared.widths.Widths.{Widths}
-use Rattle.tw_types.specs.Types.{Ty, UnitTy, Word, Boolean, Pointer, PairTy, size, block_count}
-use Rattle.tw_types.specs.Values.{Value, UnitValue, Number, Truth, Address, PairValue, HasType, value_bits}
-use Rattle.tw_types.specs.Decoding.{bits_value}
+use Rattle.tw_bits.specs.Lists.{bit_at}
+use Rattle.tw_bits.specs.Numbers.{number_bits}
+use Rattle.tw_bits.specs.Writing.{written, taken}
+use Rattle.tw_bits.proofs.Laws.{bits_number-number_bits}
+use Rattle.tw_bits.proofs.Writings.{written_two, taken_first, taken_second, number_of_bits}
+use Rattle.tw_types.specs.Types.{Widths, Ty, UnitTy, Word, Boolean, Pointer, PairTy, size, block_count}
+use Rattle.tw_types.specs.Values.{Value, UnitValue, Number, Truth, Address, PairValue, HasType, value_bits, IsDecoded}
 use Rattle.tw_types.proofs.Lengths.{length-value_bits}
 
--- an address is below the power of two of its width
-address_below : (widths : Widths) (block : ℕ) → block ≤ block_count widths → block < 2 ^ widths.addr
+-- the addresses of blocks, with null, are the numbers of that width
+pub address_below : (widths : Widths) (block : ℕ) → block ≤ block_count widths → block < 2 ^ widths.addr
 address_below widths block typed = let some = pow_pos widths.addr in omega arith
 
-address_within : (widths : Widths) (block : ℕ) → block < 2 ^ widths.addr → block ≤ block_count widths
+pub address_within : (widths : Widths) (block : ℕ) → block < 2 ^ widths.addr → block ≤ block_count widths
 address_within widths block below = omega arith
 
--- a value of the type is the one that its bits encode
-pub bits_value-value_bits : (widths : Widths) (value : Value) (ty : Ty) → HasType widths value ty → bits_value widths ty (value_bits widths value) ≡ value
-bits_value-value_bits widths UnitValue UnitTy typed = refl
-bits_value-value_bits widths (Number n) Word typed = ap Number (bits_number-number_bits widths.word n typed)
-bits_value-value_bits widths (Truth is) Boolean typed = refl
-bits_value-value_bits widths (Address block) (Pointer target) typed =
-    ap Address (bits_number-number_bits widths.addr block (address_below widths block typed))
-bits_value-value_bits widths (PairValue x y) (PairTy first second) typed =
-    rw (← length-value_bits widths x first typed.0, take-append_seam (value_bits widths x) (value_bits widths y), drop-append_seam (value_bits widths x) (value_bits widths y), bits_value-value_bits widths x first typed.0, bits_value-value_bits widths y second typed.1) refl
-bits_value-value_bits widths value ty typed = absurd typed
+-- numbers of a width that have the same bits are equal
+pub number_bits-injective : (width m n : ℕ) → m < 2 ^ width → n < 2 ^ width → number_bits width m ≡ number_bits width n → m ≡ n
+number_bits-injective width m n fits also same =
+    number_of_bits width m (number_bits width n) fits same ∙ bits_number-number_bits width n also
 
--- so different values of a type have different bits
-pub value_bits-one_to_one : (widths : Widths) (ty : Ty) (x y : Value) → HasType widths x ty → HasType widths y ty → value_bits widths x ≡ value_bits widths y → x ≡ y
-value_bits-one_to_one widths ty x y typed_x typed_y same =
-    sym (bits_value-value_bits widths x ty typed_x) ∙ ap (bits_value widths ty) same ∙ bits_value-value_bits widths y ty typed_y
-
--- the first half of as many bits as a pair has
-length-first : (widths : Widths) (first second : Ty) (bits : List Bool) → length bits ≡ size widths first + size widths second → length (take (size widths first) bits) ≡ size widths first
-length-first widths first second bits len = length-take-le (size widths first) bits (omega (arith, len))
-
--- and the rest
-length-second : (widths : Widths) (first second : Ty) (bits : List Bool) → length bits ≡ size widths first + size widths second → length (drop (size widths first) bits) ≡ size widths second
-length-second widths first second bits len = rw (length-drop) (omega (arith, len))
-
--- each list of as many bits as the type has encodes a value of the type
-pub bits_value-typed : (widths : Widths) (ty : Ty) (bits : List Bool) → length bits ≡ size widths ty → HasType widths (bits_value widths ty bits) ty
-bits_value-typed widths UnitTy bits len = tt
-bits_value-typed widths Word bits len = rw len at (bits_number-lt bits)
-bits_value-typed widths Boolean bits len = tt
-bits_value-typed widths (Pointer target) bits len = address_within widths (bits_number bits) (rw len at (bits_number-lt bits))
-bits_value-typed widths (PairTy first second) bits len = (
-  bits_value-typed widths first (take (size widths first) bits) (length-first widths first second bits len),
-  bits_value-typed widths second (drop (size widths first) bits) (length-second widths first second bits len),
+-- appended lists that are equal have equal parts, where the first parts have one length
+pub append-injective : (xs ys us vs : List Bool) → length xs ≡ length us → xs ++ ys ≡ us ++ vs → (xs ≡ us) × (ys ≡ vs)
+append-injective xs ys us vs len same = (
+  sym (take-append_seam xs ys) ∙ (ap (take (length xs)) same ∙ (ap (λ n. take n (us ++ vs)) len ∙ take-append_seam us vs)),
+  sym (drop-append_seam xs ys) ∙ (ap (drop (length xs)) same ∙ (ap (λ n. drop n (us ++ vs)) len ∙ drop-append_seam us vs)),
 )
 
-of_length : (width : ℕ) (bits : List Bool) → length bits ≡ width → number_bits width (bits_number bits) ≡ bits
-of_length width bits len = rw (← len) (number_bits-bits_number bits)
+-- values of one type that have the same bits are equal
+pub value_bits-injective : (widths : Widths) (ty : Ty) (x y : Value) → HasType widths x ty → HasType widths y ty → value_bits widths x ≡ value_bits widths y → x ≡ y
+value_bits-injective widths UnitTy UnitValue UnitValue typed also same = refl
+value_bits-injective widths Word (Number m) (Number n) typed also same = ap Number (number_bits-injective widths.word m n typed also same)
+value_bits-injective widths Boolean (Truth x) (Truth y) typed also same = cc
+value_bits-injective widths (Pointer target) (Address x) (Address y) typed also same =
+    ap Address (number_bits-injective widths.addr x y (address_below widths x typed) (address_below widths y also) same)
+value_bits-injective widths (PairTy first second) (PairValue a b) (PairValue c d) typed also same =
+    let parts = append-injective (value_bits widths a) (value_bits widths b) (value_bits widths c) (value_bits widths d)
+    (length-value_bits widths a first typed.0 ∙ sym (length-value_bits widths c first also.0)) same in
+    ap (λ x. PairValue x b) (value_bits-injective widths first a c typed.0 also.0 parts.0)
+    ∙ ap (PairValue c) (value_bits-injective widths second b d typed.1 also.1 parts.1)
+value_bits-injective widths UnitTy UnitValue y typed also same = absurd also
+value_bits-injective widths Word (Number m) y typed also same = absurd also
+value_bits-injective widths Boolean (Truth x) y typed also same = absurd also
+value_bits-injective widths (Pointer target) (Address x) y typed also same = absurd also
+value_bits-injective widths (PairTy first second) (PairValue a b) y typed also same = absurd also
+value_bits-injective widths ty x y typed also same = absurd typed
 
--- and is the bits of that value
-pub value_bits-bits_value : (widths : Widths) (ty : Ty) (bits : List Bool) → length bits ≡ size widths ty → value_bits widths (bits_value widths ty bits) ≡ bits
-value_bits-bits_value widths UnitTy [] len = refl
-value_bits-bits_value widths UnitTy (bit ∷ bits) len = absurd (omega (arith, len))
-value_bits-bits_value widths Word bits len = of_length widths.word bits len
-value_bits-bits_value widths Boolean [] len = absurd (omega (arith, len))
-value_bits-bits_value widths Boolean (bit ∷ []) len = refl
-value_bits-bits_value widths Boolean (bit ∷ next ∷ bits) len = absurd (omega (arith, len))
-value_bits-bits_value widths (Pointer target) bits len = of_length widths.addr bits len
-value_bits-bits_value widths (PairTy first second) bits len =
-    rw (value_bits-bits_value widths first (take (size widths first) bits) (length-first widths first second bits len), value_bits-bits_value widths second (drop (size widths first) bits) (length-second widths first second bits len))
-    (take-append-drop (size widths first) bits)
+-- a value of the type that has these bits is the one that they encode
+pub decoded : (widths : Widths) (ty : Ty) (bits : List Bool) (value : Value) → HasType widths value ty → value_bits widths value ≡ bits → IsDecoded widths ty bits value
+decoded widths ty bits value typed encodes = record {
+  typed = typed;
+  encodes = encodes;
+  only = λ other also same. value_bits-injective widths ty other value also typed (same ∙ sym encodes);
+}
+
+-- one bit taken, as a list
+pub one_taken : (at : ℕ) (bits : List Bool) → at + 1 ≤ length bits → bit_at bits at ∷ [] ≡ taken at 1 bits
+one_taken at [] within = absurd (omega (arith, within))
+one_taken zero (bit ∷ bits) within = refl
+one_taken (suc at) (bit ∷ bits) within = one_taken at bits (omega (arith, within))
+
+-- two parts taken, the second right after the first
+pub two_taken : (at m n next : ℕ) (bits xs ys : List Bool) → xs ≡ taken at m bits → next ≡ at + m → ys ≡ taken next n bits → xs ++ ys ≡ taken at (m + n) bits
+two_taken at m n next bits xs ys one place two =
+    ap (λ first. first ++ ys) (one ∙ sym (taken_first at m n bits))
+    ∙ ap (λ second. take m (taken at (m + n) bits) ++ second) (two ∙ (ap (λ k. taken k n bits) place ∙ sym (taken_second at m n bits)))
+    ∙ take-append-drop m (taken at (m + n) bits)
+
+-- the second part of a pair is written right after the first
+pub pair_written : (widths : Widths) (x y : Value) (first : Ty) (n at next : ℕ) (old middle new : List Bool) → HasType widths x first → at + (size widths first + n) ≤ length old → next ≡ at + size widths first → middle ≡ written at (value_bits widths x) old → new ≡ written next (value_bits widths y) middle → new ≡ written at (value_bits widths (PairValue x y)) old
+pair_written widths x y first n at next old middle new typed within place one two =
+    let len = length-value_bits widths x first typed in
+    two
+    ∙ ap (λ bits. written next (value_bits widths y) bits) one
+    ∙ ap (λ k. written k (value_bits widths y) (written at (value_bits widths x) old)) (place ∙ ap (λ k. at + k) (sym len))
+    ∙ written_two at (value_bits widths x) (value_bits widths y) old (omega (arith, within, len))

@@ -1,7 +1,6 @@
 -- A type's size is at most its extent.
 use Rattle.std.proofs.Common.{◌≤◌, arith}
-use Rattle.tw_types.specs.declared.widths.Widths.{Widths}
-use Rattle.tw_types.specs.Types.{Ty, UnitTy, Word, Boolean, Pointer, PairTy, size, extent}
+use Rattle.tw_types.specs.Types.{Widths, Ty, UnitTy, Word, Boolean, Pointer, PairTy, size, extent}
 
 -- the size is at most the extent
 pub size_le_extent : (widths : Widths) (ty : Ty) → size widths ty ≤ extent widths ty

@@ -1,10 +1,8 @@
--- How many bits values and padded bits have.
-use Rattle.std.proofs.Common.{◌≡◌, ℕ, ◌≤◌, Bool, List, [], ◌∷◌, length, refl, arith, length-append}
-use Rattle.std.proofs.lemmas.List.{length-replicate}
-use Rattle.tw_types.specs.declared.widths.Widths.{Widths}
+-- How many bits values have.
+use Rattle.std.proofs.Common.{◌≡◌, ◌≤◌, List, [], ◌∷◌, length, refl, arith, length-append}
 use Rattle.tw_bits.proofs.Laws.{length-number_bits}
-use Rattle.tw_types.specs.Types.{Ty, UnitTy, Word, Boolean, Pointer, PairTy, Target, size, block_size}
-use Rattle.tw_types.specs.Values.{Value, UnitValue, Number, Truth, Address, PairValue, HasType, value_bits, padded}
+use Rattle.tw_types.specs.Types.{Widths, Ty, UnitTy, Word, Boolean, Pointer, PairTy, Target, size, block_size}
+use Rattle.tw_types.specs.Values.{Value, UnitValue, Number, Truth, Address, PairValue, HasType, value_bits}
 
 -- a value has as many bits as its type
 pub length-value_bits : (widths : Widths) (value : Value) (ty : Ty) → HasType widths value ty → length (value_bits widths value) ≡ size widths ty
@@ -15,10 +13,6 @@ length-value_bits widths (Address block) (Pointer target) typed = length-number_
 length-value_bits widths (PairValue x y) (PairTy first second) typed =
     rw (length-append, length-value_bits widths x first typed.0, length-value_bits widths y second typed.1) refl
 length-value_bits widths value ty typed = absurd typed
-
--- bits that fit are padded to the whole length
-pub length-padded : (len : ℕ) (bits : List Bool) → length bits ≤ len → length (padded len bits) ≡ len
-length-padded len bits fits = rw (length-append, length-replicate) (omega arith)
 
 -- an address fits into a block
 pub addr-le-block_size : (widths : Widths) (targets : List Target) → widths.addr ≤ block_size widths targets

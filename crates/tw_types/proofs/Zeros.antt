@@ -2,8 +2,7 @@
 use Rattle.std.proofs.Common.{◌≡◌, ℕ, zero, suc, ◌+◌, false, ◌∷◌, ◌++◌, replicate, refl, ap, arith, zero-add, suc-add}
 use Rattle.std.proofs.lemmas.Nat.{pow_pos}
 use Rattle.tw_bits.proofs.Laws.{number_bits-zero}
-use Rattle.tw_types.specs.declared.widths.Widths.{Widths}
-use Rattle.tw_types.specs.Types.{Ty, UnitTy, Word, Boolean, Pointer, PairTy, size}
+use Rattle.tw_types.specs.Types.{Widths, Ty, UnitTy, Word, Boolean, Pointer, PairTy, size}
 use Rattle.tw_types.specs.Values.{HasType, zero_value, value_bits}
 
 -- the zero of a type has that type

@@ -1,6 +1,18 @@
--- Types, their sizes, and the blocks of memory.
-use Rattle.std.specs.Prelude.{◌≡◌, ℕ, ◌+◌, ◌-◌, ◌^◌, max, List, [], ◌∷◌, refl}
-use Rattle.tw_types.specs.declared.widths.Widths.{Widths}
+-- Widths, types, their sizes, and the blocks of memory.
+use Rattle.std.specs.Prelude.{◌≡◌, ℕ, ◌+◌, ◌-◌, ◌^◌, ◌≤◌, max, List, [], ◌∷◌, refl}
+use Rattle.tw_types.specs.declared.widths.TheConstants.{WORD_LIMIT, ADDR_LIMIT}
+
+-- the widths of a word and of an address, in bits
+pub record Widths : Type 0 where
+  pub word : ℕ
+  pub addr : ℕ
+
+-- a word has 1 to 32 bits, and an address 1 to 8
+pub record AreInRange (widths : Widths) : Type 0 where
+  pub word_from : 1 ≤ widths.word
+  pub word_to : widths.word ≤ WORD_LIMIT
+  pub addr_from : 1 ≤ widths.addr
+  pub addr_to : widths.addr ≤ ADDR_LIMIT
 
 -- a type; a pointer has its target's number in the list of targets
 pub data Ty : Type 0 where
@@ -25,11 +37,6 @@ extent widths Word = widths.word
 extent widths Boolean = 1
 extent widths (Pointer target) = widths.addr
 extent widths (PairTy first second) = extent widths first + extent widths second
-
--- the depth: how far pairs stand in each other, from 1 on
-abbrev pub depth : Ty → ℕ
-depth (PairTy first second) = 1 + max (depth first) (depth second)
-depth other = 1
 
 -- a target of pointers: its type as it is written, and what that stands for
 pub record Target : Type 0 where
@@ -63,7 +70,7 @@ size_of_item = refl
 pub block_of_item : block_size (record { word = 32; addr = 8 }) (record { written = 108 ∷ 105 ∷ 115 ∷ 116 ∷ []; ty = item } ∷ []) ≡ 40
 block_of_item = refl
 
--- `((), (bool, ()))` has one bit, the extent 3 and the depth 3
+-- `((), (bool, ()))` has one bit and the extent 3
 abbrev nested : Ty
 nested = PairTy UnitTy (PairTy Boolean UnitTy)
 
@@ -72,9 +79,3 @@ size_of_nested = refl
 
 pub extent_of_nested : extent (record { word = 3; addr = 2 }) nested ≡ 3
 extent_of_nested = refl
-
-pub depth_of_nested : depth nested ≡ 3
-depth_of_nested = refl
-
-pub depth_of_word : depth Word ≡ 1
-depth_of_word = refl

@@ -1,8 +1,7 @@
 -- Values, which type they have, and the bits that encode them.
-use Rattle.std.specs.Prelude.{◌≡◌, ℕ, ◌-◌, ◌^◌, ◌<◌, ◌≤◌, Bool, true, false, List, [], ◌∷◌, ◌++◌, length, replicate, refl}
+use Rattle.std.specs.Prelude.{◌≡◌, ℕ, ◌^◌, ◌<◌, ◌≤◌, Bool, true, false, List, [], ◌∷◌, ◌++◌, refl}
 use Rattle.tw_bits.specs.Numbers.{number_bits}
-use Rattle.tw_types.specs.declared.widths.Widths.{Widths}
-use Rattle.tw_types.specs.Types.{Ty, UnitTy, Word, Boolean, Pointer, PairTy, block_count}
+use Rattle.tw_types.specs.Types.{Widths, Ty, UnitTy, Word, Boolean, Pointer, PairTy, block_count}
 
 -- a value: `()`, a number, a truth value, an address or a pair
 pub data Value : Type 0 where
@@ -21,6 +20,10 @@ HasType widths (Address block) (Pointer target) = block ≤ block_count widths
 HasType widths (PairValue x y) (PairTy first second) = HasType widths x first × HasType widths y second
 HasType widths value ty = ⊥
 
+-- `true` is no word
+pub truth_is_no_word : HasType (record { word = 3; addr = 2 }) (Truth true) Word → ⊥
+truth_is_no_word typed = typed
+
 -- the zero of a type: `()`, 0, false, null, or the pair of zeros
 abbrev pub zero_value : Ty → Value
 zero_value UnitTy = UnitValue
@@ -37,12 +40,11 @@ value_bits widths (Truth is) = is ∷ []
 value_bits widths (Address block) = number_bits widths.addr block
 value_bits widths (PairValue x y) = value_bits widths x ++ value_bits widths y
 
--- the bits, followed by zeros up to this length
-abbrev pub padded : ℕ → List Bool → List Bool
-padded len bits = bits ++ replicate (len - length bits) false
-
-pub one_padded_to_three : padded 3 (value_bits (record { word = 1; addr = 1 }) (Truth true)) ≡ true ∷ false ∷ false ∷ []
-one_padded_to_three = refl
+-- the value is the one of the type that these bits encode
+pub record IsDecoded (widths : Widths) (ty : Ty) (bits : List Bool) (value : Value) : Type 0 where
+  pub typed : HasType widths value ty
+  pub encodes : value_bits widths value ≡ bits
+  pub only : (other : Value) → HasType widths other ty → value_bits widths other ≡ bits → other ≡ value
 
 -- `(6, (true, &2))` in words of three bits and addresses of two
 pub six_true_and_block_2 :

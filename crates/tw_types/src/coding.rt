@@ -1,10 +1,9 @@
 //! Values in lists of bits: least bit first, and the first half of a pair before the second.
-ghost use Rattle.std.specs.Prelude.{◌≡◌, ◌≤◌, ◌<◌, ◌+◌, ◌^◌, ◌++◌, length, take, drop, IfOk};
+ghost use Rattle.std.specs.Prelude.{◌≡◌, ◌≤◌, ◌<◌, ◌+◌, ◌^◌, length, IfOk};
 ghost use Rattle.tw_bits.specs.Numbers.{number_bits};
 ghost use Rattle.tw_types.specs.Types.{size};
-ghost use Rattle.tw_types.specs.Values.{HasType, value_bits};
-ghost use Rattle.tw_types.specs.Decoding.{bits_value};
-ghost use Rattle.tw_types.specs.Writing.{taken, written};
+ghost use Rattle.tw_bits.specs.Writing.{taken, written};
+ghost use Rattle.tw_types.specs.Values.{HasType, IsDecoded, value_bits};
 ghost use Rattle.tw_types.specs.FromCode.{ty_of, value_of};
 
 use crate::types::Ty;
@@ -13,13 +12,13 @@ use crate::widths::Widths;
 use std::alloc::{AllocError, Global};
 use tw_bits::Bits;
 
-/// Writes a number into `len` bits from a place on, and gives the place behind them.
+/// Writes a number into `len` bits from a place on, and gives the place after them.
 fn put(bits: &mut Bits, at: usize, len: u32, n: u64) -> usize
     requires word { len ≤ 64 }
     requires within { at + len ≤ length bits.old }
     requires counted { length bits.old < 2 ^ 64 }
     requires fits { n < 2 ^ len }
-    ensures behind { result ≡ at + len }
+    ensures next { result ≡ at + len }
     ensures bits { bits.new ≡ written at (number_bits len n) bits.old }
     ensures len { length bits.new ≡ length bits.old }
 {
@@ -27,14 +26,12 @@ fn put(bits: &mut Bits, at: usize, len: u32, n: u64) -> usize
     at + len as usize
 }
 
-/// Writes the bits of a value from a place on, and gives the place behind them.
+/// Writes the bits of a value from a place on, and gives the place after them.
 fn put_value(val: &Val, ty: &Ty, widths: Widths, bits: &mut Bits, at: usize) -> usize
     requires typed { HasType widths (value_of val.now) (ty_of ty.now) }
-    requires words { widths.word ≤ 64 }
-    requires addresses { widths.addr ≤ 32 }
     requires within { at + size widths (ty_of ty.now) ≤ length bits.old }
     requires counted { length bits.old < 2 ^ 64 }
-    ensures behind { result ≡ at + size widths (ty_of ty.now) }
+    ensures next { result ≡ at + size widths (ty_of ty.now) }
     ensures bits { bits.new ≡ written at (value_bits widths (value_of val.now)) bits.old }
     ensures len { length bits.new ≡ length bits.old }
 {
@@ -43,8 +40,8 @@ fn put_value(val: &Val, ty: &Ty, widths: Widths, bits: &mut Bits, at: usize) -> 
         (Val::B(is), Ty::Bool) => put(bits, at, 1, u64::from(*is)),
         (Val::Ptr(block), Ty::Ptr(_)) => put(bits, at, widths.addr, u64::from(*block)),
         (Val::Pair(x, y), Ty::Pair(first, second)) => {
-            let behind = put_value(x, first, widths, bits, at);
-            put_value(y, second, widths, bits, behind)
+            let next = put_value(x, first, widths, bits, at);
+            put_value(y, second, widths, bits, next)
         }
         // `()` has no bits, and no other value has the type.
         _ => at,
@@ -53,15 +50,11 @@ fn put_value(val: &Val, ty: &Ty, widths: Widths, bits: &mut Bits, at: usize) -> 
 
 /// Writes the bits of a value of a type, from `at` on, and changes no other bit: those of a number or an address with the
 /// least bit first, `true` as 1, and the first half of a pair before the second. It takes no memory.
-/// Words have at most 64 bits and addresses at most 32, and the bits lie within the list.
-#[tactic(auto, using(crate::proofs::Placed::all_written))]
+/// The bits lie within the list.
 pub fn encode_into(val: &Val, ty: &Ty, widths: Widths, bits: &mut Bits, at: usize)
     requires typed { HasType widths (value_of val.now) (ty_of ty.now) }
-    requires words { widths.word ≤ 64 }
-    requires addresses { widths.addr ≤ 32 }
     requires within { at + size widths (ty_of ty.now) ≤ length bits.old }
-    ensures bits { bits.new
-        ≡ take at bits.old ++ (value_bits widths (value_of val.now) ++ drop (at + size widths (ty_of ty.now)) bits.old) }
+    ensures bits { bits.new ≡ written at (value_bits widths (value_of val.now)) bits.old }
     ensures len { length bits.new ≡ length bits.old }
 {
     // The length is a `usize`, so no place overflows.
@@ -69,8 +62,8 @@ pub fn encode_into(val: &Val, ty: &Ty, widths: Widths, bits: &mut Bits, at: usiz
     put_value(val, ty, widths, bits, at);
 }
 
-/// The value of a type whose bits stand from a place on, and the place behind them. An error: there is no memory for it.
-#[tactic(auto, using(crate::proofs::Placed::number_found, crate::proofs::Placed::address_found, crate::proofs::Placed::truth_found, crate::proofs::Placed::pair_found))]
+/// The value of a type whose bits stand from a place on, and the place after them. An error: there is no memory for it.
+#[tactic(auto, using(crate::proofs::Encoding::one_taken, crate::proofs::Encoding::two_taken, crate::proofs::Encoding::address_within))]
 fn value_at(
     alloc: Global,
     ty: &Ty,
@@ -78,13 +71,11 @@ fn value_at(
     bits: &Bits,
     at: usize,
 ) -> Result<(Val, usize), AllocError>
-    requires words { widths.word ≤ 64 }
-    requires addresses { widths.addr ≤ 32 }
     requires within { at + size widths (ty_of ty.now) ≤ length bits.now }
     requires counted { length bits.now < 2 ^ 64 }
-    ensures value { IfOk result (λ found.
-        value_of found.0 ≡ bits_value widths (ty_of ty.now) (taken at (size widths (ty_of ty.now)) bits.now)) }
-    ensures behind { IfOk result (λ found. found.1 ≡ at + size widths (ty_of ty.now)) }
+    ensures typed { IfOk result (λ found. HasType widths (value_of found.0) (ty_of ty.now)) }
+    ensures bits { IfOk result (λ found. value_bits widths (value_of found.0) ≡ taken at (size widths (ty_of ty.now)) bits.now) }
+    ensures next { IfOk result (λ found. found.1 ≡ at + size widths (ty_of ty.now)) }
 {
     match ty {
         Ty::Unit => Ok((Val::Unit, at)),
@@ -98,18 +89,17 @@ fn value_at(
             Ok((Val::Ptr(block as u32), at + widths.addr as usize))
         }
         Ty::Pair(first, second) => {
-            let (x, behind) = value_at(alloc, first, widths, bits, at)?;
-            let (y, behind) = value_at(alloc, second, widths, bits, behind)?;
-            Ok((pair(alloc, x, y)?, behind))
+            let (x, next) = value_at(alloc, first, widths, bits, at)?;
+            let (y, next) = value_at(alloc, second, widths, bits, next)?;
+            Ok((pair(alloc, x, y)?, next))
         }
     }
 }
 
-/// The value of a type whose bits stand from `at` on: the least bit of a number or an address first, 1 for `true`, and the
-/// first half of a pair before the second. Each list of bits is that of a value.
-/// Words have at most 64 bits and addresses at most 32, and the bits lie within the list.
+/// The one value of a type whose bits stand from `at` on: the least bit of a number or an address first, 1 for `true`, and
+/// the first half of a pair before the second. Each list of bits is that of a value. The bits lie within the list.
 /// An error: there is no memory for it.
-#[tactic(auto, using(crate::proofs::Placed::found_typed, crate::proofs::Placed::found_encodes))]
+#[tactic(auto, using(crate::proofs::Encoding::decoded))]
 pub fn decode_from(
     alloc: Global,
     ty: &Ty,
@@ -117,14 +107,9 @@ pub fn decode_from(
     bits: &Bits,
     at: usize,
 ) -> Result<Val, AllocError>
-    requires words { widths.word ≤ 64 }
-    requires addresses { widths.addr ≤ 32 }
     requires within { at + size widths (ty_of ty.now) ≤ length bits.now }
-    ensures value { IfOk result (λ val.
-        value_of val ≡ bits_value widths (ty_of ty.now) (take (size widths (ty_of ty.now)) (drop at bits.now))) }
-    ensures typed { IfOk result (λ val. HasType widths (value_of val) (ty_of ty.now)) }
-    ensures encodes { IfOk result (λ val.
-        value_bits widths (value_of val) ≡ take (size widths (ty_of ty.now)) (drop at bits.now)) }
+    ensures { IfOk result (λ val.
+        IsDecoded widths (ty_of ty.now) (taken at (size widths (ty_of ty.now)) bits.now) (value_of val)) }
 {
     // The length is a `usize`, so no place overflows.
     prove!(at <= bits.len());

@@ -111,7 +111,7 @@ fn is_coded(
     requires { extent widths (ty_of ty.now) ≤ 4096 }
 {
     let size = size_of(ty, widths);
-    if !has_type(val, ty, widths) || widths.word > 64 || widths.addr > 32 || size > 60 {
+    if !has_type(val, ty, widths) || size > 60 {
         return Ok(false);
     }
     let mut bits = Bits::zeros(alloc, 64)?;
@@ -148,20 +148,18 @@ fn values_go_to_bits_and_back(rt: HostRuntime) -> Result<(), Fail> {
 }
 
 #[test]
-fn all_bits_are_those_of_a_value(rt: HostRuntime) -> Result<(), Fail> {
-    let alloc = rt.alloc();
-    let last = Ty::Pair(&LIST, &Ty::Unit);
-    let rest = Ty::Pair(&Ty::Bool, &last);
-    let whole = Ty::Pair(&Ty::Uint, &rest);
-    for number in 0..64 {
-        let mut bits = Bits::zeros(alloc, 12)?;
-        bits.put_number(0, 6, number);
-        let val = decode_from(alloc, &whole, THREE, &bits, 0)?;
-        encode_into(&val, &whole, THREE, &mut bits, 6);
-        assert_eq!(rt; bits.number_at(0, 6), number);
-        assert_eq!(rt; bits.number_at(6, 6), number);
+fn widths_are_in_range(rt: HostRuntime) {
+    for (word, addr, is) in [
+        (1, 1, true),
+        (32, 8, true),
+        (0, 1, false),
+        (33, 1, false),
+        (1, 0, false),
+        (1, 9, false),
+    ] {
+        assert_eq!(rt; Widths::new(word, addr).is_some(), is);
     }
-    Ok(())
+    assert_eq!(rt; Widths::new(3, 2), Some(THREE));
 }
 
 /// The place of a text, where one more target has room.
