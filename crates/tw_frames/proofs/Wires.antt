@@ -11,7 +11,7 @@ use Rattle.tw_state.specs.Programs.{Variable}
 use Rattle.tw_state.specs.Typing.{HasVariable}
 use Rattle.tw_state.specs.Encoding.{variable_bits}
 use Rattle.tw_state.proofs.Sizes.{length-variable_bits}
-use Rattle.tw_state.proofs.Stores.{bytes_eq-apart, bytes_eq-same}
+use Rattle.tw_state.proofs.Stores.{bytes_eq-different, bytes_eq-same}
 use Rattle.tw_frames.specs.Layout.{variables_size, wire_from}
 
 -- variables that a store has, have as many bits as their types
@@ -34,18 +34,18 @@ variables_size-length widths [] all = refl
 variables_size-length widths (variable ∷ variables) all =
     rw (size-truth widths all.0, variables_size-length widths variables all.1, one-add)
 
--- the bit behind a front
-bit_at-length : (front back : List Bool) (bit : Bool) → bit_at (front ++ bit ∷ back) (length front) ≡ bit
-bit_at-length [] back bit = refl
-bit_at-length (b ∷ front) back bit = bit_at-length front back bit
+-- the bit after a prefix
+bit_at-length : (prefix suffix : List Bool) (bit : Bool) → bit_at (prefix ++ bit ∷ suffix) (length prefix) ≡ bit
+bit_at-length [] suffix bit = refl
+bit_at-length (b ∷ prefix) suffix bit = bit_at-length prefix suffix bit
 
--- the bit of a truth value lies at the wire of its name, whatever comes before and behind the variables
-pub bit_at-wire_from : (widths : Widths) (store : Store) (more : List Variable) (name : Name) (is : Bool) → store name ≡ Some (Truth is) → (variables : List Variable) → AllByRecursion (HasVariable widths store) variables → Contains (map (λ v. v.name) variables) name → (front back : List Bool) → bit_at (front ++ (flat_map (variable_bits widths store) variables ++ back)) (wire_from widths (length front) (variables ++ more) name) ≡ is
-bit_at-wire_from widths store more name is value [] all known front back = absurd (omega (arith, known.1))
-bit_at-wire_from widths store more name is value (variable ∷ variables) all known front back =
-    rw (append_assoc first_bits rest_bits back)
+-- the bit of a truth value lies at the wire of its name, whatever comes before and after the variables
+pub bit_at-wire_from : (widths : Widths) (store : Store) (more : List Variable) (name : Name) (is : Bool) → store name ≡ Some (Truth is) → (variables : List Variable) → AllByRecursion (HasVariable widths store) variables → Contains (map (λ v. v.name) variables) name → (prefix suffix : List Bool) → bit_at (prefix ++ (flat_map (variable_bits widths store) variables ++ suffix)) (wire_from widths (length prefix) (variables ++ more) name) ≡ is
+bit_at-wire_from widths store more name is value [] all known prefix suffix = absurd (omega (arith, known.1))
+bit_at-wire_from widths store more name is value (variable ∷ variables) all known prefix suffix =
+    rw (append_assoc first_bits rest_bits suffix)
     (by (bytes_eq variable.name name) (bytes_eq-Decides variable.name name)
-    (λ apart. bit_at-wire_from widths store more name is value variables all.1 (Contains-tail variable.name (map (λ v. v.name) variables) name apart known) (front ++ first_bits) back))
+    (λ apart. bit_at-wire_from widths store more name is value variables all.1 (Contains-tail variable.name (map (λ v. v.name) variables) name apart known) (prefix ++ first_bits) suffix))
   where
     first_bits : List Bool
     first_bits = variable_bits widths store variable
@@ -53,16 +53,16 @@ bit_at-wire_from widths store more name is value (variable ∷ variables) all kn
     rest_bits : List Bool
     rest_bits = flat_map (variable_bits widths store) variables
 
-    by : (test : Bool) → Decides test (variable.name ≡ name) → ((variable.name ≡ name → ⊥) → bit_at ((front ++ first_bits) ++ (rest_bits ++ back)) (wire_from widths (length (front ++ first_bits)) (variables ++ more) name) ≡ is) → bit_at (front ++ (first_bits ++ (rest_bits ++ back))) (if test then length front else wire_from widths (length front + size widths variable.ty) (variables ++ more) name) ≡ is
-    by true tests deeper = rw (tests.0 refl, value) (bit_at-length front (rest_bits ++ back) is)
+    by : (test : Bool) → Decides test (variable.name ≡ name) → ((variable.name ≡ name → ⊥) → bit_at ((prefix ++ first_bits) ++ (rest_bits ++ suffix)) (wire_from widths (length (prefix ++ first_bits)) (variables ++ more) name) ≡ is) → bit_at (prefix ++ (first_bits ++ (rest_bits ++ suffix))) (if test then length prefix else wire_from widths (length prefix + size widths variable.ty) (variables ++ more) name) ≡ is
+    by true tests deeper = rw (tests.0 refl, value) (bit_at-length prefix (rest_bits ++ suffix) is)
     by false tests deeper =
-        rw (append_assoc front first_bits (rest_bits ++ back), length-append, length-variable_bits widths store variable all.0) at (deeper (λ same. true≢false (sym (tests.1 same))))
+        rw (append_assoc prefix first_bits (rest_bits ++ suffix), length-append, length-variable_bits widths store variable all.0) at (deeper (λ same. true≢false (sym (tests.1 same))))
 
--- a variable that shares no name with those before it lies behind them
-pub wire_from-behind : (widths : Widths) (variable : Variable) (more : List Variable) (variables : List Variable) → AllByRecursion (λ other. other.name ≢ variable.name) variables → (first : ℕ) → wire_from widths first (variables ++ variable ∷ more) variable.name ≡ first + variables_size widths variables
-wire_from-behind widths variable more [] fresh first = rw (bytes_eq-same variable.name) (omega arith)
-wire_from-behind widths variable more (other ∷ variables) fresh first =
-    rw (bytes_eq-apart other.name variable.name fresh.0, wire_from-behind widths variable more variables fresh.1 (first + size widths other.ty)) (omega arith)
+-- a variable that shares no name with those before it lies after them
+pub wire_from-after : (widths : Widths) (variable : Variable) (more : List Variable) (variables : List Variable) → AllByRecursion (λ other. other.name ≢ variable.name) variables → (first : ℕ) → wire_from widths first (variables ++ variable ∷ more) variable.name ≡ first + variables_size widths variables
+wire_from-after widths variable more [] fresh first = rw (bytes_eq-same variable.name) (omega arith)
+wire_from-after widths variable more (other ∷ variables) fresh first =
+    rw (bytes_eq-different other.name variable.name fresh.0, wire_from-after widths variable more variables fresh.1 (first + size widths other.ty)) (omega arith)
 
 -- the wire of a known name is one of the variables' wires, where each variable has one bit
 pub wire_from-within : (widths : Widths) (more : List Variable) (name : Name) (variables : List Variable) → AreBoolean variables → Contains (map (λ v. v.name) variables) name → (first : ℕ) → (first ≤ wire_from widths first (variables ++ more) name) × (wire_from widths first (variables ++ more) name < first + variables_size widths variables)

@@ -1,4 +1,4 @@
--- What a statement's circuit costs, by recursion on the source: no wire is seen here.
+-- The inventory and the T-count of a statement's circuit, by recursion on the source.
 use Rattle.std.specs.Prelude.{◌≡◌, ℕ, ◌+◌, ◌*◌, List, [], ◌∷◌, ◌++◌, sum_by, codes, refl}
 use Rattle.tw_gate.specs.Weight.{weight}
 use Rattle.tw_state.specs.Programs.{Atom, Var, And, Expr, Binary, Stmt, Skip, Then, Let}
@@ -15,7 +15,7 @@ row number controls = record { number = number; controls = controls }
 abbrev pub loads : Atom → List Row
 loads (Var name) = row 1 1 ∷ []
 
--- each row twice, for what is done and later undone
+-- each row twice, for what is computed and later uncomputed
 abbrev pub twice : List Row → List Row
 twice rows = rows ++ rows
 
@@ -37,7 +37,7 @@ t_total rows = sum_by (λ r. r.number * weight r.controls) rows
 abbrev pub cost : Stmt → ℕ
 cost stmt = t_total (inventory stmt 0)
 
--- `let c <- a && b;` loads both operands, flips by both, and undoes the loads
+-- `let c <- a && b;` loads both operands, flips by both, and uncomputes the loads
 pub inventory_of_and : inventory (Let (codes "c") (Binary And (Var (codes "a")) (Var (codes "b")))) 0 ≡ row 1 1 ∷ row 1 1 ∷ row 1 1 ∷ row 1 1 ∷ row 1 2 ∷ []
 inventory_of_and = refl
 

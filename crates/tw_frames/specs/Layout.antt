@@ -17,7 +17,7 @@ variables_size widths (variable ∷ variables) = size widths variable.ty + varia
 abbrev pub scratch_of_expr : Expr → ℕ
 scratch_of_expr (Binary And left right) = 2
 
--- the scratch wires of the hungriest statement
+-- the scratch wires of the statement that needs most of them
 abbrev pub scratch_size : Stmt → ℕ
 scratch_size Skip = 0
 scratch_size (Then first rest) = max (scratch_size first) (scratch_size rest)

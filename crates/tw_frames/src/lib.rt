@@ -1,4 +1,4 @@
-//! Where a function's variables lie on wires, and what its circuit costs.
+//! The layout of wires, and the inventory of a circuit.
 //! The definitions of `specs/` give the layout of the wires and the inventory of the gates, by recursion on the function.
 #![tactic(auto)]
 

@@ -18,7 +18,7 @@ use Rattle.tw_state.proofs.Renamed.{renames, well_formed-runs}
 use Rattle.tw_state.proofs.Sizes.{length-memory_bits, length-variable_bits}
 use Rattle.tw_state.proofs.Stores.{variable_bits-given, flat_map-with_value}
 use Rattle.tw_frames.specs.Layout.{scratch_size, layout_of, wire_of}
-use Rattle.tw_frames.proofs.Wires.{length-variables_bits, bit_at-wire_from, wire_from-behind}
+use Rattle.tw_frames.proofs.Wires.{length-variables_bits, bit_at-wire_from, wire_from-after}
 use Rattle.tw_lower.specs.Circuits.{and_gates, stmt_gates, function_gates}
 use Rattle.tw_lower.specs.Correct.{Implements, IsConjunction}
 use Rattle.tw_lower.proofs.Conjunction.{act-and_gates}
@@ -33,16 +33,16 @@ record Conjoined (function : Function) (left right : Name) (start end : State) :
 
 -- `&&` has a value where both values are truth values
 operands_are : (widths : Widths) (left right value : Value) → operator_value widths And left right ≡ Some value → (x y : Bool) × (left ≡ Truth x) × (right ≡ Truth y) × (value ≡ Truth (x && y))
-operands_are widths (Truth x) (Truth y) value worth = (x, y, refl, refl, cc)
-operands_are widths left right value worth = cc
+operands_are widths (Truth x) (Truth y) value evaluates = (x, y, refl, refl, cc)
+operands_are widths left right value evaluates = cc
 
 -- and so it is with operands
 both_are : (widths : Widths) (left right : Option Value) (value : Value) → both_values widths And left right ≡ Some value → (x y : Bool) × (left ≡ Some (Truth x)) × (right ≡ Some (Truth y)) × (value ≡ Truth (x && y))
-both_are widths (Some left) (Some right) value worth =
-    let are = operands_are widths left right value worth in
+both_are widths (Some left) (Some right) value evaluates =
+    let are = operands_are widths left right value evaluates in
     (are.0, are.1, ap Some are.2, ap Some are.3, are.4)
-both_are widths (Some left) None value worth = cc
-both_are widths None right value worth = cc
+both_are widths (Some left) None value evaluates = cc
+both_are widths None right value evaluates = cc
 
 -- what holds of all of a list holds of its last
 pub all_last : {X : Type 0} (P : X → Type 0) (xs : List X) (x : X) → AllByRecursion P (xs ++ x ∷ []) → P x
@@ -65,7 +65,7 @@ function_gates-conjunction widths targets {function} {left} {right} is =
     let scratch = (layout_of widths targets function).scratch in
     ap (stmt_gates wire scratch) is.body
     ∙ ap (λ (out : ℕ). and_gates (wire left) (wire right) out scratch)
-    (wire_from-behind widths function.result [] function.parameters is.fresh (layout_of widths targets function).args)
+    (wire_from-after widths function.result [] function.parameters is.fresh (layout_of widths targets function).args)
 
 -- the circuit reads the same in both directions
 pub inverse-conjunction : (widths : Widths) (targets : List Target) {function : Function} {left right : Name} → IsConjunction function left right → inverse (function_gates widths targets function) ≡ function_gates widths targets function
@@ -83,7 +83,7 @@ module _ {widths : Widths} {targets : List Target} {function : Function} {left r
   conjoined : Conjoined function left right start end
   conjoined =
       let runs = subst (λ body. Runs widths body start end) is.body does.runs in
-      let both = both_are widths (start.store left) (start.store right) runs.1.value runs.1.worth in
+      let both = both_are widths (start.store left) (start.store right) runs.1.value runs.1.evaluates in
       record {
         x = both.0;
         y = both.1;
@@ -93,13 +93,13 @@ module _ {widths : Widths} {targets : List Target} {function : Function} {left r
       }
 
   -- the bits that stay: the memory and the parameters
-  front : List Bool
-  front = memory_bits widths targets start ++ flat_map (variable_bits widths start.store) function.parameters
+  prefix : List Bool
+  prefix = memory_bits widths targets start ++ flat_map (variable_bits widths start.store) function.parameters
 
   -- they reach up to the result
-  length_front : length front ≡ (layout_of widths targets function).out
-  unfolding front
-  length_front =
+  length_prefix : length prefix ≡ (layout_of widths targets function).out
+  unfolding prefix
+  length_prefix =
       rw (length-append, length-memory_bits does.typed_at_start, length-variables_bits widths start.store function.parameters does.typed_at_start.holds.each)
 
   -- the result has one bit
@@ -110,57 +110,57 @@ module _ {widths : Widths} {targets : List Target} {function : Function} {left r
       ∙ ap (λ (state : State). length (variable_bits widths state.store function.result)) conjoined.end_is
       ∙ ap length (variable_bits-given widths start.store function.result (Truth (conjoined.x && conjoined.y)))
 
-  -- behind them are the result and two scratch wires
-  wires_behind : (layout_of widths targets function).wires ≡ length front + 3
-  wires_behind = omega (arith, length_front, size_result, ap scratch_size is.body)
+  -- after them are the result and two scratch wires
+  wires_after : (layout_of widths targets function).wires ≡ length prefix + 3
+  wires_after = omega (arith, length_prefix, size_result, ap scratch_size is.body)
 
   -- at the start these three are zero
-  start_bits : encoded_at_start (layout_of widths targets function).wires widths targets function start ≡ front ++ false ∷ false ∷ false ∷ []
-  unfolding front
-  start_bits = padded-by (layout_of widths targets function).wires 3 front wires_behind
+  start_bits : encoded_at_start (layout_of widths targets function).wires widths targets function start ≡ prefix ++ false ∷ false ∷ false ∷ []
+  unfolding prefix
+  start_bits = padded-by (layout_of widths targets function).wires 3 prefix wires_after
 
   -- at the end the first of them is the `&&`
-  end_bits : encoded_at_end (layout_of widths targets function).wires widths targets function end ≡ front ++ (conjoined.x && conjoined.y) ∷ false ∷ false ∷ []
-  unfolding front
+  end_bits : encoded_at_end (layout_of widths targets function).wires widths targets function end ≡ prefix ++ (conjoined.x && conjoined.y) ∷ false ∷ false ∷ []
+  unfolding prefix
   end_bits =
       let bit = conjoined.x && conjoined.y in
       let wires = (layout_of widths targets function).wires in
-      let shown : length (front ++ bit ∷ []) ≡ length front + 1 = length-append front (bit ∷ []) in
+      let shown : length (prefix ++ bit ∷ []) ≡ length prefix + 1 = length-append prefix (bit ∷ []) in
       ap (encoded_at_end wires widths targets function) conjoined.end_is
       ∙ ap (padded wires) (bits-given widths targets function start bit is.fresh)
-      ∙ padded-by wires 2 (front ++ bit ∷ []) (omega (arith, wires_behind))
-      ∙ append_assoc front (bit ∷ []) (false ∷ false ∷ [])
+      ∙ padded-by wires 2 (prefix ++ bit ∷ []) (omega (arith, wires_after))
+      ∙ append_assoc prefix (bit ∷ []) (false ∷ false ∷ [])
 
   -- both encodings fill the wires
   start_fills : length (encoded_at_start (layout_of widths targets function).wires widths targets function start) ≡ (layout_of widths targets function).wires
-  start_fills = ap length start_bits ∙ length-append front (false ∷ false ∷ false ∷ []) ∙ sym wires_behind
+  start_fills = ap length start_bits ∙ length-append prefix (false ∷ false ∷ false ∷ []) ∙ sym wires_after
 
   end_fills : length (encoded_at_end (layout_of widths targets function).wires widths targets function end) ≡ (layout_of widths targets function).wires
-  end_fills = ap length end_bits ∙ length-append front ((conjoined.x && conjoined.y) ∷ false ∷ false ∷ []) ∙ sym wires_behind
+  end_fills = ap length end_bits ∙ length-append prefix ((conjoined.x && conjoined.y) ∷ false ∷ false ∷ []) ∙ sym wires_after
 
   -- an operand's bit lies at its wire
-  reads : (name : Name) (bit : Bool) → Contains (map (λ parameter. parameter.name) function.parameters) name → start.store name ≡ Some (Truth bit) → (back : List Bool) → bit_at (front ++ back) (wire_of widths targets function name) ≡ bit
-  unfolding front
-  reads name bit known value back =
-      rw (append_assoc (memory_bits widths targets start) (flat_map (variable_bits widths start.store) function.parameters) back)
+  reads : (name : Name) (bit : Bool) → Contains (map (λ parameter. parameter.name) function.parameters) name → start.store name ≡ Some (Truth bit) → (suffix : List Bool) → bit_at (prefix ++ suffix) (wire_of widths targets function name) ≡ bit
+  unfolding prefix
+  reads name bit known value suffix =
+      rw (append_assoc (memory_bits widths targets start) (flat_map (variable_bits widths start.store) function.parameters) suffix)
       (rw (length-memory_bits does.typed_at_start) at
-      (bit_at-wire_from widths start.store (function.result ∷ []) name bit value function.parameters does.typed_at_start.holds.each known (memory_bits widths targets start) back))
+      (bit_at-wire_from widths start.store (function.result ∷ []) name bit value function.parameters does.typed_at_start.holds.each known (memory_bits widths targets start) suffix))
 
-  -- the circuit on the bits behind the front
-  changes : (bit : Bool) → act (function_gates widths targets function) (front ++ bit ∷ false ∷ false ∷ []) ≡ front ++ (if conjoined.x && conjoined.y then not bit else bit) ∷ false ∷ false ∷ []
+  -- the circuit on the suffix
+  changes : (bit : Bool) → act (function_gates widths targets function) (prefix ++ bit ∷ false ∷ false ∷ []) ≡ prefix ++ (if conjoined.x && conjoined.y then not bit else bit) ∷ false ∷ false ∷ []
   changes bit =
       let layout = layout_of widths targets function in
-      let behind : layout.scratch ≡ length front + 1 = omega (arith, length_front, size_result) in
+      let next : layout.scratch ≡ length prefix + 1 = omega (arith, length_prefix, size_result) in
       rw (function_gates-conjunction widths targets is)
-      (act-and_gates front (wire_of widths targets function left) (wire_of widths targets function right) conjoined.x conjoined.y
+      (act-and_gates prefix (wire_of widths targets function left) (wire_of widths targets function right) conjoined.x conjoined.y
       (reads left conjoined.x is.left_known conjoined.left_is) (reads right conjoined.y is.right_known conjoined.right_is)
-      layout.out layout.scratch (sym length_front) behind bit)
+      layout.out layout.scratch (sym length_prefix) next bit)
 
   -- the circuit takes the bits at the start to those at the end
   takes : act (function_gates widths targets function) (encoded_at_start (layout_of widths targets function).wires widths targets function start) ≡ encoded_at_end (layout_of widths targets function).wires widths targets function end
   takes = rw (start_bits, end_bits) (changes false ∙ rw (from_zero (conjoined.x && conjoined.y)))
 
-  -- and its inverse takes them back
+  -- and its inverse undoes this
   undoes : act (inverse (function_gates widths targets function)) (encoded_at_end (layout_of widths targets function).wires widths targets function end) ≡ encoded_at_start (layout_of widths targets function).wires widths targets function start
   undoes =
       rw (start_bits, end_bits, inverse-conjunction widths targets is)

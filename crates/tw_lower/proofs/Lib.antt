@@ -1,4 +1,4 @@
-pub mod Fronts
+pub mod Prefixes
 pub mod Conjunction
 pub mod Implemented
 pub mod Places

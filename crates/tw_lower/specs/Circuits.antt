@@ -7,15 +7,15 @@ use Rattle.tw_state.specs.Programs.{Atom, Var, And, Expr, Binary, Stmt, Skip, Th
 use Rattle.tw_state.specs.Examples.{one_bit, truth, conjunction, main}
 use Rattle.tw_frames.specs.Layout.{layout_of, wire_of}
 
--- the first list, the second, and the first undone
+-- the setup, the work, and the setup uncomputed
 abbrev pub conjugated : List PlainGate → List PlainGate → List PlainGate
 conjugated setup work = setup ++ (work ++ inverse setup)
 
--- a copy of one bit into a scratch wire that is 0
+-- a copy of one bit into a clean scratch wire
 abbrev pub load : ℕ → ℕ → List PlainGate
 load from scratch = X (from ∷ []) scratch ∷ []
 
--- out changes by the `&&` of two bits, by copies of them in two scratch wires
+-- flips out if both bits are 1, by copies of them in two scratch wires
 abbrev pub and_gates : (left right out scratch : ℕ) → List PlainGate
 and_gates left right out scratch =
     conjugated (load left scratch ++ load right (scratch + 1)) (X (scratch ∷ (scratch + 1) ∷ []) out ∷ [])
@@ -24,7 +24,7 @@ and_gates left right out scratch =
 abbrev pub atom_wire : (Name → ℕ) → Atom → ℕ
 atom_wire wire (Var name) = wire name
 
--- the gates that change out by the value of an expression
+-- the gates that flip out by the value of an expression
 abbrev pub expr_gates : (Name → ℕ) → ℕ → Expr → ℕ → List PlainGate
 expr_gates wire scratch (Binary And left right) out = and_gates (atom_wire wire left) (atom_wire wire right) out scratch
 

@@ -1,4 +1,4 @@
--- What a circuit promises of the function that it was made from.
+-- What it means that a circuit implements a function.
 use Rattle.std.specs.Prelude.{◌≡◌, ◌≢◌, ℕ, length, List, map, Contains}
 use Rattle.std.specs.List.{AllByRecursion}
 use Rattle.tw_gate.specs.Gates.{PlainGate, act, inverse}

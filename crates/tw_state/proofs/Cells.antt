@@ -6,9 +6,9 @@ use Rattle.std.proofs.lemmas.Option.{slice_get_within, slice_get-get_or}
 use Rattle.tw_state.specs.States.{Cell, Free, cell_at}
 
 -- what follows from each element's fact holds of each
-pub all_so : {X : Type 0} {P Q : X → Type 0} → ((x : X) → P x → Q x) → (xs : List X) → AllByRecursion P xs → AllByRecursion Q xs
-all_so f [] all = tt
-all_so f (x ∷ xs) all = (f x all.0, all_so f xs all.1)
+pub all_map : {X : Type 0} {P Q : X → Type 0} → ((x : X) → P x → Q x) → (xs : List X) → AllByRecursion P xs → AllByRecursion Q xs
+all_map f [] all = tt
+all_map f (x ∷ xs) all = (f x all.0, all_map f xs all.1)
 
 -- what holds of all numbers' images holds of the list of them
 pub all_of_range : {X : Type 0} (P : X → Type 0) (f : ℕ → X) → ((i : ℕ) → P (f i)) → (first n : ℕ) → AllByRecursion P (map f (range_with_len first n))

@@ -47,7 +47,7 @@ module _ {blocks : ℕ} (pi : Permutation blocks) where
       ∙ count_renamed block h chain all.1 (counted block n passed)
 
   module _ (cells : List Cell) (len : length cells ≡ blocks) where
-    -- a block's cell, renamed, stands at the block's new address
+    -- the new address of a block has the block's cell, renamed
     cell_at-renamed : (block : ℕ) (cell : Cell) → cell_at cells block ≡ Some cell → cell_at (renamed_cells pi cells) (pi.to block) ≡ Some (renamed_cell pi.to cell)
     cell_at-renamed block cell at =
         let within = cell_at_within cells block cell at in

@@ -1,4 +1,4 @@
--- What a function does to a state, it does to the renamed state.
+-- The semantics commutes with renaming.
 use Rattle.std.proofs.Common.{◌≡◌, ℕ, zero, suc, Bool, true, false, if◌then◌else◌, List, length, Option, Some, None, option_map, unwrap_or, refl, ap, sym, subst, ◌∙◌, arith, bytes_eq}
 use Rattle.std.proofs.Math.Path.{fun_ext}
 use Rattle.std.specs.List.{AllByRecursion}
@@ -10,19 +10,19 @@ use Rattle.tw_state.specs.Programs.{Var, Operator, And, Expr, Binary, Stmt, Skip
 use Rattle.tw_state.specs.Meaning.{operator_value, both_values, Assigns, Runs}
 use Rattle.tw_state.specs.Typing.{IsCell, Holds, IsTyped, HasResult, variables_at_end}
 use Rattle.tw_state.specs.Renaming.{Permutation, renamed_value, renamed_cell, cell_renamed_to, renamed_cells, renamed_store, renamed}
-use Rattle.tw_state.proofs.Cells.{all_so, all_of_range, all_at}
+use Rattle.tw_state.proofs.Cells.{all_map, all_of_range, all_at}
 use Rattle.tw_state.proofs.Chain.{well_formed-renamed}
 
--- an operator makes of two renamed values the renamed value
+-- the result of an operator on two renamed values is the renamed result
 operator_value-renamed : (widths : Widths) (to : ℕ → ℕ) (operator : Operator) (left right value : Value) → operator_value widths operator left right ≡ Some value → operator_value widths operator (renamed_value to left) (renamed_value to right) ≡ Some (renamed_value to value)
-operator_value-renamed widths to And (Truth left) (Truth right) value worth = ap (option_map (renamed_value to)) worth
-operator_value-renamed widths to operator left right value worth = cc
+operator_value-renamed widths to And (Truth left) (Truth right) value evaluates = ap (option_map (renamed_value to)) evaluates
+operator_value-renamed widths to operator left right value evaluates = cc
 
 -- and so it is where both operands have a value
 both_values-renamed : (widths : Widths) (to : ℕ → ℕ) (operator : Operator) (left right : Option Value) (value : Value) → both_values widths operator left right ≡ Some value → both_values widths operator (option_map (renamed_value to) left) (option_map (renamed_value to) right) ≡ Some (renamed_value to value)
-both_values-renamed widths to operator (Some left) (Some right) value worth = operator_value-renamed widths to operator left right value worth
-both_values-renamed widths to operator (Some left) None value worth = cc
-both_values-renamed widths to operator None right value worth = cc
+both_values-renamed widths to operator (Some left) (Some right) value evaluates = operator_value-renamed widths to operator left right value evaluates
+both_values-renamed widths to operator (Some left) None value evaluates = cc
+both_values-renamed widths to operator None right value evaluates = cc
 
 -- a store with one more value, renamed
 with_value-renamed : {blocks : ℕ} (pi : Permutation blocks) (store : Store) (name : Name) (value : Value) → renamed_store pi (with_value store name value) ≡ with_value (renamed_store pi store) name (renamed_value pi.to value)
@@ -36,8 +36,8 @@ module _ {blocks : ℕ} (pi : Permutation blocks) where
   assigns-renamed : (widths : Widths) (name : Name) (expr : Expr) (old new : State) → Assigns widths name expr old new → Assigns widths name expr (renamed pi old) (renamed pi new)
   assigns-renamed widths name (Binary operator (Var left) (Var right)) old new assigns = record {
     value = renamed_value pi.to assigns.value;
-    worth = both_values-renamed widths pi.to operator (old.store left) (old.store right) assigns.value assigns.worth;
-    unused = ap (option_map (renamed_value pi.to)) assigns.unused;
+    evaluates = both_values-renamed widths pi.to operator (old.store left) (old.store right) assigns.value assigns.evaluates;
+    not_live = ap (option_map (renamed_value pi.to)) assigns.not_live;
     after =
         ap (renamed pi) assigns.after
         ∙ ap (λ (store : Store). record { head = pi.to old.head; cells = renamed_cells pi old.cells; store = store }) (with_value-renamed pi old.store name assigns.value);
@@ -70,7 +70,7 @@ module _ (widths : Widths) (pi : Permutation (block_count widths)) where
   holds-renamed : (variables : List Variable) (store : Store) → Holds widths variables store → Holds widths variables (renamed_store pi store)
   holds-renamed variables store holds = record {
     each =
-        all_so
+        all_map
         (λ variable known. (renamed_value pi.to known.0, ap (option_map (renamed_value pi.to)) known.1, value_typed-renamed known.0 variable.ty known.2))
         variables holds.each;
     no_other = λ name other. ap (option_map (renamed_value pi.to)) (holds.no_other name other);

@@ -1,4 +1,4 @@
--- Names looked up in stores that were given one more value.
+-- Lookups in stores with one more value.
 use Rattle.std.proofs.Common.{◌≡◌, ◌≢◌, Bool, true, false, List, [], ◌∷◌, flat_map, refl, sym, bytes_eq}
 use Rattle.std.specs.List.{AllByRecursion}
 use Rattle.std.proofs.lemmas.Slice.Eq.{bytes_eq-Decides}
@@ -8,9 +8,9 @@ use Rattle.tw_state.specs.States.{Name, Store, with_value}
 use Rattle.tw_state.specs.Programs.{Variable}
 use Rattle.tw_state.specs.Encoding.{variable_bits}
 
--- names that are apart fail the test
-pub bytes_eq-apart : (x y : Name) → x ≢ y → bytes_eq x y ≡ false
-bytes_eq-apart x y apart = by (bytes_eq x y) (bytes_eq-Decides x y).0 where
+-- different names fail the test
+pub bytes_eq-different : (x y : Name) → x ≢ y → bytes_eq x y ≡ false
+bytes_eq-different x y apart = by (bytes_eq x y) (bytes_eq-Decides x y).0 where
   by : (test : Bool) → (test ≡ true → x ≡ y) → test ≡ false
   by true same = absurd (apart (same refl))
   by false same = refl
@@ -21,7 +21,7 @@ bytes_eq-same x = (bytes_eq-Decides x x).1 refl
 
 -- another name has the value that it had
 pub with_value-other : (store : Store) (name : Name) (value : Value) (other : Name) → name ≢ other → with_value store name value other ≡ store other
-with_value-other store name value other apart = rw (bytes_eq-apart name other apart)
+with_value-other store name value other apart = rw (bytes_eq-different name other apart)
 
 -- the bits of the variable that was given the value
 pub variable_bits-given : (widths : Widths) (store : Store) (variable : Variable) (value : Value) → variable_bits widths (with_value store variable.name value) variable ≡ value_bits widths value

@@ -6,7 +6,7 @@ use Rattle.tw_state.specs.Typing.{Holds, HasResult}
 use Rattle.tw_state.specs.Renaming.{Permutation, renamed_value, renamed}
 use Rattle.tw_state.specs.Examples.{one_bit, main, operands, start, end}
 use Rattle.tw_state.specs.Encoding.{one_live}
-use Rattle.tw_state.proofs.Stores.{bytes_eq-apart}
+use Rattle.tw_state.proofs.Stores.{bytes_eq-different}
 
 -- the one free cell is passed once
 pub start_is_well_formed : IsWellFormed start
@@ -28,7 +28,7 @@ lost_cell_is_not_well_formed formed = lost formed.chain formed.links (formed.onc
 start_holds : Holds one_bit main.parameters (operands true true)
 start_holds = record {
   each = ((Truth true, refl, tt), ((Truth true, refl, tt), tt));
-  no_other = λ name apart. rw (bytes_eq-apart (codes "b") name apart.1.0, bytes_eq-apart (codes "a") name apart.0);
+  no_other = λ name apart. rw (bytes_eq-different (codes "b") name apart.1.0, bytes_eq-different (codes "a") name apart.0);
 }
 
 -- the function takes `a true; b true` to `c true` beside them
@@ -36,14 +36,14 @@ pub main_has_result : HasResult one_bit [] main start end
 main_has_result = record {
   well_formed = start_is_well_formed;
   typed_at_start = record { head_within = omega arith; all_blocks = refl; each_cell = (omega arith, tt); holds = start_holds };
-  runs = (end, record { value = Truth true; worth = refl; unused = refl; after = refl }, refl);
+  runs = (end, record { value = Truth true; evaluates = refl; not_live = refl; after = refl }, refl);
   typed_at_end = record {
     head_within = omega arith;
     all_blocks = refl;
     each_cell = (omega arith, tt);
     holds = record {
       each = ((Truth true, refl, tt), ((Truth true, refl, tt), ((Truth true, refl, tt), tt)));
-      no_other = λ name apart. rw (bytes_eq-apart (codes "c") name apart.1.1.0) (start_holds.no_other name (apart.0, (apart.1.0, tt)));
+      no_other = λ name apart. rw (bytes_eq-different (codes "c") name apart.1.1.0) (start_holds.no_other name (apart.0, (apart.1.0, tt)));
     };
   };
 }

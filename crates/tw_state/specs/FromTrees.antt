@@ -1,4 +1,4 @@
--- The function that a syntax tree stands for; none where the tree holds a form that has no meaning here yet.
+-- The function that a syntax tree denotes; none where the tree has a node without semantics here yet.
 use Rattle.std.specs.Prelude.{◌≡◌, ℕ, true, List, [], ◌∷◌, Option, Some, None, option_map, codes, refl}
 use Rattle.tw_text.specs.declared.place.Pos.{Pos}
 use Rattle.tw_syntax.specs.declared.term.OpKind.{OpKind}
@@ -14,7 +14,7 @@ use Rattle.tw_state.specs.States.{Name}
 use Rattle.tw_state.specs.Programs.{Atom, Var, Operator, And, Expr, Binary, Stmt, Skip, Then, Let, Variable, Function}
 use Rattle.tw_state.specs.Examples.{main}
 
--- what a written type stands for
+-- the type that a written type denotes
 abbrev pub type_meant : WrittenTree → Option Ty
 type_meant (BoolType at) = Some Boolean
 type_meant other = None
@@ -32,7 +32,7 @@ abbrev pub operator_meant : OpKind → Option Operator
 operator_meant op.And = Some And
 operator_meant other = None
 
--- an operator on two operands, where all three mean something
+-- an operator on two operands, where all three denote something
 abbrev pub binary_of : Option Operator → Option Atom → Option Atom → Option Expr
 binary_of (Some operator) (Some left) (Some right) = Some (Binary operator left right)
 binary_of operator left right = None
@@ -45,12 +45,12 @@ abbrev pub rhs_meant : RhsTree → Option Expr
 rhs_meant (ExprRhs expr) = expr_meant expr
 rhs_meant other = None
 
--- a statement and those behind it, where both mean something
+-- a statement and the statements after it, where both denote something
 abbrev pub then_of : Option Stmt → Option Stmt → Option Stmt
 then_of (Some first) (Some rest) = Some (Then first rest)
 then_of first rest = None
 
--- what statements stand for: assignments of expressions, one after the other
+-- the statement that statements denote: assignments of expressions, one after the other
 abbrev pub stmt_meant : StmtTree → Option Stmt
 stmt_meant tree.Nothing = Some Skip
 stmt_meant (tree.Then first rest) = then_of (stmt_meant first) (stmt_meant rest)
@@ -61,7 +61,7 @@ stmt_meant other = None
 abbrev pub variable_meant : NameTree → WrittenTree → Option Variable
 variable_meant name ty = option_map (λ t. record { name = name.text; ty = t }) (type_meant ty)
 
--- a variable and those behind it, where all mean something
+-- a variable and the variables after it, where all denote something
 abbrev pub more_of : Option Variable → Option (List Variable) → Option (List Variable)
 more_of (Some variable) (Some variables) = Some (variable ∷ variables)
 more_of variable variables = None
@@ -70,12 +70,12 @@ abbrev pub variables_meant : List ParamTree → Option (List Variable)
 variables_meant [] = Some []
 variables_meant (param ∷ params) = more_of (variable_meant param.name param.ty) (variables_meant params)
 
--- the parts of a function, where all mean something
+-- the parts of a function, where all denote something
 abbrev pub whole_of : Option (List Variable) → Option Variable → Option Stmt → Option Function
 whole_of (Some parameters) (Some result) (Some body) = Some (record { parameters = parameters; result = result; body = body })
 whole_of parameters result body = None
 
--- the function that a tree stands for
+-- the function that a tree denotes
 abbrev pub function_meant : FunTree → Option Function
 function_meant fun = whole_of (variables_meant fun.params) (variable_meant fun.returned fun.result) (stmt_meant fun.body)
 

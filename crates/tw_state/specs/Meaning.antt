@@ -1,4 +1,4 @@
--- What expressions are worth in a store, and what statements do to a state.
+-- The semantics of expressions in a store, and of statements on states.
 use Rattle.std.specs.Prelude.{◌≡◌, ◌&&◌, Option, Some, None}
 use Rattle.tw_types.specs.Types.{Widths}
 use Rattle.tw_types.specs.Values.{Value, Truth}
@@ -9,12 +9,12 @@ use Rattle.tw_state.specs.Programs.{Atom, Var, Operator, And, Expr, Binary, Stmt
 abbrev pub atom_value : Store → Atom → Option Value
 atom_value store (Var name) = store name
 
--- what an operator makes of two values, if they have the types that it takes
+-- the result of an operator on two values, if they have its types
 abbrev pub operator_value : Widths → Operator → Value → Value → Option Value
 operator_value widths And (Truth left) (Truth right) = Some (Truth (left && right))
 operator_value widths operator left right = None
 
--- what an operator makes of two operands, if both have a value
+-- the result of an operator on two operands, if both have a value
 abbrev pub both_values : Widths → Operator → Option Value → Option Value → Option Value
 both_values widths operator (Some left) (Some right) = operator_value widths operator left right
 both_values widths operator _ _ = None
@@ -23,11 +23,11 @@ both_values widths operator _ _ = None
 abbrev pub expr_value : Widths → Store → Expr → Option Value
 expr_value widths store (Binary operator left right) = both_values widths operator (atom_value store left) (atom_value store right)
 
--- a name that had no value gets the value of an expression, and nothing else changes
+-- a name that was not live gets the value of an expression, and nothing else changes
 pub record Assigns (widths : Widths) (name : Name) (expr : Expr) (old new : State) : Type 0 where
   pub value : Value
-  pub worth : expr_value widths old.store expr ≡ Some value
-  pub unused : old.store name ≡ None
+  pub evaluates : expr_value widths old.store expr ≡ Some value
+  pub not_live : old.store name ≡ None
   pub after : new ≡ record old { store = with_value old.store name value }
 
 -- the statement takes the old state to the new one

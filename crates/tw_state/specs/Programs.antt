@@ -1,4 +1,4 @@
--- Programs as plain data.
+-- The abstract syntax of functions, as far as it has semantics here.
 use Rattle.std.specs.Prelude.{List}
 use Rattle.tw_types.specs.Types.{Ty}
 use Rattle.tw_state.specs.States.{Name}
@@ -15,7 +15,7 @@ pub data Operator : Type 0 where
 pub data Expr : Type 0 where
   Binary : (operator : Operator) (left right : Atom) → Expr
 
--- a statement; a sequence is nothing, or a statement and a sequence behind it
+-- a statement; a sequence is nothing, or a statement and the sequence after it
 pub data Stmt : Type 0 where
   Skip : Stmt
   Then : (first rest : Stmt) → Stmt

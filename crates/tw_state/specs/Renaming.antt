@@ -1,4 +1,4 @@
--- Blocks under other addresses.
+-- Renaming of blocks.
 use Rattle.std.specs.Prelude.{◌≡◌, ℕ, ◌≤◌, List, length, map, unwrap_or, option_map}
 use Rattle.std.specs.List.{range_with_len}
 use Rattle.tw_types.specs.Values.{Value, Address, PairValue}
@@ -26,7 +26,7 @@ abbrev pub renamed_cell : (ℕ → ℕ) → Cell → Cell
 renamed_cell to (Free next) = Free (to next)
 renamed_cell to (Live target value) = Live target (renamed_value to value)
 
--- the cell that stands at a block after the renaming
+-- the cell of a block after the renaming
 abbrev pub cell_renamed_to : {blocks : ℕ} → Permutation blocks → List Cell → ℕ → Cell
 cell_renamed_to pi cells block = renamed_cell pi.to (unwrap_or (cell_at cells (pi.from block)) (Free 0))
 

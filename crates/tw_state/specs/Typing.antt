@@ -1,4 +1,4 @@
--- Which states fit the beginning and the end of a function, and what its result on a state is.
+-- Which states are typed at the start and at the end of a function, and which of them are its results.
 use Rattle.std.specs.Prelude.{◌≡◌, ◌≢◌, ◌≤◌, Some, None, List, [], ◌∷◌, ◌++◌, length}
 use Rattle.std.specs.List.{AllByRecursion}
 use Rattle.tw_types.specs.Types.{Widths, Ty, Target, block_count}

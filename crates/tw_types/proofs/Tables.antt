@@ -1,4 +1,4 @@
--- The table of targets: places of texts, a target behind the others, and another type at one place.
+-- The table of targets: places of texts, an appended target, and another type at one place.
 use denote.Bor.{Bor}
 use Rattle.std.proofs.Common.{◌≡◌, ◌≢◌, ◌∙◌, ap, sym, ℕ, zero, suc, ◌+◌, ◌≤◌, Bool, true, false, cond, not, List, [], ◌∷◌, ◌++◌, map, length, position, Some, None, option_map, slice_get, get_or, arith, refl, true≢false, bytes_eq}
 use Rattle.std.specs.List.{AllByRecursion, position_or_len}
@@ -32,14 +32,14 @@ module _ {X : Type 0} (p : X → Bool) where
   pub fails_of_none : (xs : List X) → position p xs ≡ None → Fails xs
   fails_of_none xs none = fails_from xs (grind (arith, common_steps))
 
-  -- an element that passes behind others that fail
-  or_len-behind : (xs : List X) (x : X) → Fails xs → p x ≡ true → position_or_len p (xs ++ x ∷ []) ≡ length xs
-  or_len-behind [] x fails passes = rw passes refl
-  or_len-behind (y ∷ xs) x fails passes = rw (fails.0, or_len-behind xs x fails.1 passes) (omega arith)
+  -- an element that passes, after others that fail
+  or_len-appended : (xs : List X) (x : X) → Fails xs → p x ≡ true → position_or_len p (xs ++ x ∷ []) ≡ length xs
+  or_len-appended [] x fails passes = rw passes refl
+  or_len-appended (y ∷ xs) x fails passes = rw (fails.0, or_len-appended xs x fails.1 passes) (omega arith)
 
-  pub place-behind : (xs : List X) (x : X) → Fails xs → p x ≡ true → position p (xs ++ x ∷ []) ≡ Some (length xs)
-  place-behind xs x fails passes =
-      let at = or_len-behind xs x fails passes in grind (arith, common_steps)
+  pub place-appended : (xs : List X) (x : X) → Fails xs → p x ≡ true → position p (xs ++ x ∷ []) ≡ Some (length xs)
+  place-appended xs x fails passes =
+      let at = or_len-appended xs x fails passes in grind (arith, common_steps)
 
 -- the first place in a list of images
 or_len-map : {X Y : Type 0} (p : Y → Bool) (f : X → Y) (xs : List X) → position_or_len p (map f xs) ≡ position_or_len (λ x. p (f x)) xs
@@ -55,42 +55,42 @@ place_of-keys text entries =
     place-map (λ (target : Target). bytes_eq text target.written) target_of entries
     ∙ sym (place-map (λ (key : Bor (List ℕ)). bytes_eq text key.now) (λ entry. entry.0) entries)
 
--- a text that is not there is apart from all that are
-apart_of_fails : (text : List ℕ) (targets : List Target) → Fails (λ target. bytes_eq text target.written) targets → AllByRecursion (λ target. target.written ≢ text) targets
-apart_of_fails text [] fails = tt
-apart_of_fails text (target ∷ targets) fails =
-    ((λ same. true≢false (sym ((bytes_eq-Decides text target.written).1 (sym same)) ∙ fails.0)), apart_of_fails text targets fails.1)
+-- a text that is not there differs from all that are
+different_of_fails : (text : List ℕ) (targets : List Target) → Fails (λ target. bytes_eq text target.written) targets → AllByRecursion (λ target. target.written ≢ text) targets
+different_of_fails text [] fails = tt
+different_of_fails text (target ∷ targets) fails =
+    ((λ same. true≢false (sym ((bytes_eq-Decides text target.written).1 (sym same)) ∙ fails.0)), different_of_fails text targets fails.1)
 
 -- what holds of all and of one more
-all_behind : {X : Type 0} (P : X → Type 0) (xs : List X) (x : X) → AllByRecursion P xs → P x → AllByRecursion P (xs ++ x ∷ [])
-all_behind P [] x all one = (one, tt)
-all_behind P (y ∷ xs) x all one = (all.0, all_behind P xs x all.1 one)
+all_appended : {X : Type 0} (P : X → Type 0) (xs : List X) (x : X) → AllByRecursion P xs → P x → AllByRecursion P (xs ++ x ∷ [])
+all_appended P [] x all one = (one, tt)
+all_appended P (y ∷ xs) x all one = (all.0, all_appended P xs x all.1 one)
 
--- targets with another behind them that is written otherwise
-distinct_behind : (targets : List Target) (target : Target) → AreDistinct targets → AllByRecursion (λ other. other.written ≢ target.written) targets → AreDistinct (targets ++ target ∷ [])
-distinct_behind [] target distinct apart = (tt, tt)
-distinct_behind (other ∷ targets) target distinct apart =
-    (all_behind (λ another. other.written ≢ another.written) targets target distinct.0 apart.0, distinct_behind targets target distinct.1 apart.1)
+-- targets with another one appended that is written otherwise
+distinct_appended : (targets : List Target) (target : Target) → AreDistinct targets → AllByRecursion (λ other. other.written ≢ target.written) targets → AreDistinct (targets ++ target ∷ [])
+distinct_appended [] target distinct apart = (tt, tt)
+distinct_appended (other ∷ targets) target distinct apart =
+    (all_appended (λ another. other.written ≢ another.written) targets target distinct.0 apart.0, distinct_appended targets target distinct.1 apart.1)
 
 pub distinct-interned : (text : List ℕ) (ty : Ty) (targets : List Target) → place_of text targets ≡ None → AreDistinct targets → AreDistinct (targets ++ record { written = text; ty = ty } ∷ [])
 distinct-interned text ty targets none distinct =
-    distinct_behind targets _ distinct (apart_of_fails text targets (fails_of_none _ targets none))
+    distinct_appended targets _ distinct (different_of_fails text targets (fails_of_none _ targets none))
 
--- the place of a new text is behind the others
+-- the place of a new text is after the others
 pub place_of-new : (text : List ℕ) (ty : Ty) (targets : List Target) → place_of text targets ≡ None → place_of text (targets ++ record { written = text; ty = ty } ∷ []) ≡ Some (length targets)
 place_of-new text ty targets none =
-    place-behind (λ target. bytes_eq text target.written) targets _ (fails_of_none _ targets none) ((bytes_eq-Decides text text).1 refl)
+    place-appended (λ target. bytes_eq text target.written) targets _ (fails_of_none _ targets none) ((bytes_eq-Decides text text).1 refl)
 
--- a known text changes nothing, and a new one goes behind the others
+-- a known text changes nothing, and a new one is appended
 pub interned-known : (text : List ℕ) (targets : List Target) {place : ℕ} → place_of text targets ≡ Some place → interned text targets ≡ targets
 interned-known text targets known = rw known refl
 
 pub interned-new : (text : List ℕ) (targets : List Target) → place_of text targets ≡ None → interned text targets ≡ targets ++ record { written = text; ty = UnitTy } ∷ []
 interned-new text targets none = rw none refl
 
--- the entries of the table, with another behind them
-pub targets_of-behind : (entries : List (Bor (List ℕ) × ty.Ty)) (entry : Bor (List ℕ) × ty.Ty) → targets_of (entries ++ entry ∷ []) ≡ targets_of entries ++ target_of entry ∷ []
-targets_of-behind entries entry = map-append target_of entries (entry ∷ [])
+-- the entries of the table, with another one appended
+pub targets_of-appended : (entries : List (Bor (List ℕ) × ty.Ty)) (entry : Bor (List ℕ) × ty.Ty) → targets_of (entries ++ entry ∷ []) ≡ targets_of entries ++ target_of entry ∷ []
+targets_of-appended entries entry = map-append target_of entries (entry ∷ [])
 
 -- the entries of the table, with another type at one place
 pub targets_of-defined : (entries : List (Bor (List ℕ) × ty.Ty)) (place : ℕ) (t : ty.Ty) → targets_of (set_value_at entries place t) ≡ defined place (ty_of t) (targets_of entries)

@@ -13,7 +13,7 @@ zero_value-typed widths Boolean = tt
 zero_value-typed widths (Pointer target) = omega arith
 zero_value-typed widths (PairTy first second) = (zero_value-typed widths first, zero_value-typed widths second)
 
--- zeros behind zeros
+-- zeros after zeros
 replicate-append : (n k : ℕ) → replicate n false ++ replicate k false ≡ replicate (n + k) false
 replicate-append zero k = rw (zero-add) refl
 replicate-append (suc n) k = rw (suc-add) (ap (λ rest. false ∷ rest) (replicate-append n k))

@@ -1,4 +1,4 @@
--- The list of targets: which place a text has in it, and what it is after a new text or a new type.
+-- The list of targets: the place of a text in it, and the list after a new text or a new type.
 use Rattle.std.specs.Prelude.{◌≡◌, ◌≢◌, ℕ, zero, suc, if◌then◌else◌, List, [], ◌∷◌, ◌++◌, Option, Some, None, is_some, option_map, position, slice_get, refl}
 use Rattle.std.specs.List.{AllByRecursion}
 use Rattle.std.specs.Str.{bytes_eq}
@@ -13,7 +13,7 @@ AreDistinct (target ∷ targets) = AllByRecursion (λ other. target.written ≢ 
 abbrev pub place_of : List ℕ → List Target → Option ℕ
 place_of text targets = position (λ target. bytes_eq text target.written) targets
 
--- the targets with this text among them: as they were, or with it behind them, standing for `()`
+-- the targets with this text among them: unchanged, or with it appended, for `()`
 abbrev pub interned : List ℕ → List Target → List Target
 interned text targets =
     if is_some (place_of text targets) then targets else targets ++ record { written = text; ty = UnitTy } ∷ []
@@ -24,7 +24,7 @@ defined place ty [] = []
 defined zero ty (target ∷ targets) = record target { ty = ty } ∷ targets
 defined (suc place) ty (target ∷ targets) = target ∷ defined place ty targets
 
--- how the target at a place is written, and what it stands for
+-- the text and the type of the target at a place
 abbrev pub written_at : List Target → ℕ → Option (List ℕ)
 written_at targets place = option_map (λ target. target.written) (slice_get targets place)
 

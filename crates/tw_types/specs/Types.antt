@@ -38,7 +38,7 @@ extent widths Boolean = 1
 extent widths (Pointer target) = widths.addr
 extent widths (PairTy first second) = extent widths first + extent widths second
 
--- a target of pointers: its type as it is written, and what that stands for
+-- a target of pointers: its type as it is written, and the type that this denotes
 pub record Target : Type 0 where
   pub written : List ℕ
   pub ty : Ty
@@ -59,7 +59,7 @@ three_blocks = refl
 pub block_of_two_bits : block_size (record { word = 1; addr = 2 }) [] ≡ 2
 block_of_two_bits = refl
 
--- a target `list`, which stands for `(uint, ptr<list>)`
+-- a target `list`, which denotes `(uint, ptr<list>)`
 abbrev item : Ty
 item = PairTy Word (Pointer 0)
 

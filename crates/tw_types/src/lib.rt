@@ -1,5 +1,6 @@
 //! Types and values: their sizes and zeros, the bits that encode them, and the table of the targets of pointers.
-//! The definitions of `specs/` say which values a type has and which bits encode them, and `proofs/` that these are one to one.
+//! The definitions of `specs/` say which values a type has and which bits encode them; `proofs/` shows that the encoding of
+//! each type is injective.
 #![tactic(auto)]
 
 mod coding;

@@ -7,7 +7,7 @@ use indexmap::IndexMap;
 use std::alloc::{AllocError, Global};
 use std::marker::Model;
 
-/// The targets of pointers, in the order in which they were first seen: each as it is written, and the type that it stands for.
+/// The targets of pointers, in the order in which they were first seen: each as it is written, and the type that it denotes.
 /// No two are written the same, and there are at most 4,294,967,295.
 #[derive(Drop)]
 pub struct Targets<'a> {
@@ -49,7 +49,7 @@ impl<'a> Targets<'a> {
         self.table.len() as u32
     }
 
-    /// The place of the target that is written so. A new one goes behind the others and stands for `()` until it is defined.
+    /// The place of the target that is written so. A new one is appended, and denotes `()` until it is defined.
     /// There are fewer than 4,294,967,295 targets. An error: there is no memory for it, and the targets are as they were.
     pub fn intern(&mut self, written: &'a str) -> Result<TargetId, AllocError>
         requires room { length self.old < 4294967295 }
@@ -65,7 +65,7 @@ impl<'a> Targets<'a> {
         Ok(TargetId(place as u32))
     }
 
-    /// Lets a target stand for a type. It takes no memory.
+    /// Sets the type that a target denotes. It takes no memory.
     pub fn define(&mut self, id: TargetId, ty: Ty<'a>)
         requires known { id.0 < length self.old }
         ensures { self.new ≡ defined (id.0) (ty_of ty.entry) self.old }
@@ -82,7 +82,7 @@ impl<'a> Targets<'a> {
         written
     }
 
-    /// The type that a target stands for.
+    /// The type that a target denotes.
     pub fn ty(&self, id: TargetId) -> Ty<'a>
         requires known { id.0 < length self.now }
         ensures { ty_at self.now (id.0) ≡ Some (ty_of result) }

@@ -8,7 +8,7 @@ use crate::widths::Widths;
 #[derive(Debug, Clone, Copy, PartialEq, Eq)]
 pub struct TargetId(pub u32);
 
-/// A type, in which each name outside pointers stands for its expansion.
+/// A type, with each name outside pointers expanded.
 /// A pointer keeps its target as it is written, by the target's number.
 #[derive(Clone, Copy)]
 pub enum Ty<'a> {
