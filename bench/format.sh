@@ -5,20 +5,18 @@ set -eu
 here=$(cd "$(dirname "${BASH_SOURCE[0]}")/.." && pwd)
 folder=$(mktemp -d)
 trap 'rm -rf "$folder"' EXIT
-"$here/yathrefon" format < /dev/null > /dev/null || true   # builds the program
+"$here/yathrefon" --prove format < /dev/null > /dev/null || true   # builds the program
 
-PYTHONPATH="$here/bench" python3 - "$folder" "$here/crates/yathrefon/out/yathrefon" "$here/examples/length.printed" <<'END'
-import pathlib
+PYTHONPATH="$here/bench" python3 - "$folder/input" "$here/crates/yathrefon/out/yathrefon" <<'END'
 import sys
+from inputs import functions
 from timing import best
 
-folder, program, example = pathlib.Path(sys.argv[1]), sys.argv[2], pathlib.Path(sys.argv[3]).read_text()
-head, function = example.split("\n", 1)
-
+path, program = sys.argv[1:]
 before = None
 for size in (100_000, 1_000_000, 10_000_000):
-    path = folder / str(size)
-    path.write_text(head + "\n" + function * (size // len(function)))
+    with open(path, "w") as source:
+        source.write(functions(size))
     taken = best([program, "format"], path)
     growth = "" if before is None else f", {taken / before:.1f} times the one before"
     print(f"{size // 1000} KB: yathrefon / wc: {taken / best(['wc'], path):.1f}{growth}")

@@ -7,45 +7,25 @@ set -eu
 here=$(cd "$(dirname "${BASH_SOURCE[0]}")/.." && pwd)
 folder=$(mktemp -d)
 trap 'rm -rf "$folder"' EXIT
-"$here/yathrefon" format < /dev/null > /dev/null || true   # builds the program
+"$here/yathrefon" --prove format < /dev/null > /dev/null || true   # builds the program
 
 PYTHONPATH="$here/bench" python3 - "$folder" "$here/crates/yathrefon/out/yathrefon" <<'END'
 import pathlib
-import random
 import sys
+from inputs import bit_lines, gate_file
 from timing import best, peak_memory
 
 WIRES = 4096
 folder, program = pathlib.Path(sys.argv[1]), sys.argv[2]
-random.seed(1)
-
-
-def gate_line():
-    """A gate line with 0 to 3 controls, and its T-count."""
-    *controls, target = random.sample(range(WIRES), random.choice((1, 2, 2, 3, 3, 3, 4)))
-    controls.sort()
-    word = ("x", "cx", "ccx", "mcx 3")[len(controls)]
-    return " ".join(map(str, (word, *controls, target))), (0, 0, 7, 21)[len(controls)]
-
-
-def gate_file(gates):
-    lines = [gate_line() for _ in range(gates)]
-    head = f"tower-gates 1\nlevel mcx\nwires {WIRES}\ngates {gates}\nt-count {sum(t for _, t in lines)}\n"
-    return head + "".join(line + "\n" for line, _ in lines) + "end\n"
-
-
-def bit_lines(count):
-    return "%%\n" + "".join("".join(random.choices("01", k=WIRES)) + "\n" for _ in range(count))
-
 
 before = {}
 for gates in (10_000, 100_000, 1_000_000):
-    text = gate_file(gates)
+    text = gate_file(gates, WIRES)
     for name, command, behind in (
         ("invert", "invert", ""),
-        ("sim, 1 line", "sim", bit_lines(1)),
-        ("sim, 64 lines", "sim", bit_lines(64)),
-        ("sim, 1,024 lines", "sim", bit_lines(1024)),
+        ("sim, 1 line", "sim", bit_lines(1, WIRES)),
+        ("sim, 64 lines", "sim", bit_lines(64, WIRES)),
+        ("sim, 1,024 lines", "sim", bit_lines(1024, WIRES)),
     ):
         path = folder / "input"
         path.write_text(text + behind)

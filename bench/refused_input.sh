@@ -7,7 +7,7 @@ size=${1:-128}
 input=$(mktemp)
 trap 'rm -f "$input"' EXIT
 head -c "$((size * 1048576))" /dev/zero | tr '\0' 'a' > "$input"
-"$here/yathrefon" format < /dev/null > /dev/null || true   # builds the program
+"$here/yathrefon" --prove format < /dev/null > /dev/null || true   # builds the program
 
 PYTHONPATH="$here/bench" python3 - "$input" "$here/crates/yathrefon/out/yathrefon" <<'END'
 import sys

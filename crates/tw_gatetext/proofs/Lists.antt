@@ -4,9 +4,9 @@ use Rattle.std.specs.List.{AllByRecursion}
 use Rattle.std.proofs.Math.Seq.{take-suc}
 use Rattle.std.proofs.lemmas.List.{map-append, length-map}
 use Rattle.tw_gate.specs.declared.gate.Level.{Level}
-use Rattle.tw_io.specs.declared.outside.WriteFault.{WriteFault}
+use Rattle.tw_io.specs.declared.device.WriteFault.{WriteFault}
 use Rattle.tw_io.specs.Devices.{Wrote}
-use Rattle.tw_io.proofs.Devices.{wrote_then, wrote_front, wrote_none, appends_nothing}
+use Rattle.tw_io.proofs.Devices.{wrote_then, wrote_prefix, wrote_none, appends_nothing}
 use Rattle.tw_gate.specs.declared.gate.Gate.{Gate}
 use Rattle.tw_gate.specs.Gates.{PlainGate, X, H, T, Tdg, plain, inverse, inverse_gate, directed}
 use Rattle.tw_gate.proofs.Inverse.{inverse-append, length-inverse}
@@ -35,7 +35,7 @@ gate_then taken faults a b c result gates first others split wrote later = rw sp
 -- what broke off in the first of some gates broke off in their lines
 pub gate_broke : {K : Type 0} (taken : K → Option (List ℕ)) (faults : K → ℕ) (a b : K) (fault : WriteFault) (gates : List PlainGate) (first : PlainGate) (others : List PlainGate) → gates ≡ first ∷ others
     → Wrote taken faults a b (Err fault) (line first) → Wrote taken faults a b (Err fault) (lines gates)
-gate_broke taken faults a b fault gates first others split wrote = rw split (wrote_front taken faults a b fault (line first) (lines others) wrote)
+gate_broke taken faults a b fault gates first others split wrote = rw split (wrote_prefix taken faults a b fault (line first) (lines others) wrote)
 
 pub map-drop : (gates : List Gate) (i : ℕ) (d : Gate) → i < length gates → map plain (drop i gates) ≡ plain (get_or gates i d) ∷ map plain (drop (i + 1) gates)
 map-drop gates i d within = rw add-one (ap (map plain) (drop-cons gates i d within))
@@ -57,7 +57,7 @@ few_inverse_at (gate ∷ gates) zero d within few = few_inverse (plain gate) few
 few_inverse_at (gate ∷ gates) (suc i) d within few = few_inverse_at gates i d (omega arith) few.1
 
 pub gates_done : {K : Type 0} (taken : K → Option (List ℕ)) (faults : K → ℕ) (a : K) (gates : List PlainGate) → gates ≡ [] → Wrote taken faults a a (Ok tt) (lines gates)
-gates_done taken faults a gates none = rw none (wrote_none taken faults a a (appends_nothing (taken a)) (omega arith))
+gates_done taken faults a gates none = rw none (wrote_none taken faults a)
 
 length-directed : (back : Bool) (gates : List Gate) → length (directed back (map plain gates)) ≡ length gates
 length-directed true gates = length-inverse (map plain gates) ∙ length-map gates plain

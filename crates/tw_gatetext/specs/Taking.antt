@@ -2,7 +2,7 @@
 use Rattle.std.specs.Prelude.{◌≡◌, ℕ, List, [], ◌∷◌, Option, Some, codes, refl}
 use Rattle.std.specs.Fmt.{digits}
 use Rattle.std.specs.Borrow.{MutBor}
-use Rattle.tw_io.specs.Devices.{Appends, AppendsFront}
+use Rattle.tw_io.specs.Devices.{Appends, AppendsPrefix}
 use Rattle.tw_gate.specs.Gates.{PlainGate, H, HasWiresBelow}
 use Rattle.tw_gatetext.specs.FileLimits.{most_wires}
 use Rattle.tw_gatetext.specs.Text.{lines, HasFewControls}
@@ -20,7 +20,7 @@ pub record TookLines {K : Type 0} (taken : K → Option (List ℕ)) (old new : M
 -- the sink took a front of the lines of these gates, and is the same that was lent
 pub record BrokeLines {K : Type 0} (taken : K → Option (List ℕ)) (old new : MutBor K) (gates : List PlainGate) : Type 0 where
   pub same_sink : new.ghost_name ≡ old.ghost_name
-  pub front : AppendsFront (taken old.now) (taken new.now) (lines gates)
+  pub front : AppendsPrefix (taken old.now) (taken new.now) (lines gates)
 
 -- a sink took the line of a gate
 pub TookLines-one : (sink : MutBor (List ℕ)) → TookLines Some (record sink { now = codes "x 1\n" }) (record sink { now = codes "x 1\nh 2\n" }) (H 2 ∷ [])
@@ -32,5 +32,5 @@ pub BrokeLines-two : (sink : MutBor (List ℕ)) → BrokeLines Some (record sink
 unfolding digits
 BrokeLines-two sink = record {
   same_sink = refl;
-  front = record { front = codes "h "; rest = codes "2\n"; split = refl; taken = refl };
+  front = record { prefix = codes "h "; suffix = codes "2\n"; split = refl; taken = refl };
 }

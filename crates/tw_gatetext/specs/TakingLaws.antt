@@ -1,7 +1,7 @@
 -- A sink that is lent for gate lines takes gates by the laws of takers.
 use Rattle.std.proofs.Common.{◌≡◌, ◌∙◌, ap, sym, ℕ, List, [], ◌∷◌, ◌++◌, Option, append_assoc, refl}
 use Rattle.std.specs.Borrow.{MutBor}
-use Rattle.tw_io.proofs.Devices.{appends_nothing, appends_both, appends_front_longer, appends_front_then}
+use Rattle.tw_io.proofs.Devices.{appends_nothing, appends_both, appends_prefix_longer, appends_prefix_then}
 use Rattle.tw_gate.specs.Gates.{PlainGate}
 use Rattle.tw_gatetext.specs.Text.{line, lines}
 use Rattle.tw_gatetext.specs.Taking.{TookLines, BrokeLines}
@@ -26,12 +26,12 @@ module _ {K : Type 0} (taken : K → Option (List ℕ)) where
   pub lines_later : (a b c : MutBor K) (xs ys : List PlainGate) → TookLines taken a b xs → BrokeLines taken b c ys → BrokeLines taken a c (xs ++ ys)
   lines_later a b c xs ys first second = record {
     same_sink = second.same_sink ∙ first.same_sink;
-    front = rw (lines-append xs ys) (appends_front_then (taken a.now) (taken b.now) (taken c.now) (lines xs) (lines ys) first.whole second.front);
+    front = rw (lines-append xs ys) (appends_prefix_then (taken a.now) (taken b.now) (taken c.now) (lines xs) (lines ys) first.whole second.front);
   }
 
   -- a front of the lines of xs is a front of those of a longer list
   pub lines_longer : (a b : MutBor K) (xs ys : List PlainGate) → BrokeLines taken a b xs → BrokeLines taken a b (xs ++ ys)
   lines_longer a b xs ys first = record {
     same_sink = first.same_sink;
-    front = rw (lines-append xs ys) (appends_front_longer (taken a.now) (taken b.now) (lines xs) (lines ys) first.front);
+    front = rw (lines-append xs ys) (appends_prefix_longer (taken a.now) (taken b.now) (lines xs) (lines ys) first.front);
   }

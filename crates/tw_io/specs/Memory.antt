@@ -1,9 +1,9 @@
--- What clauses see of the devices in memory.
+-- What contracts see of the devices in memory.
 use Rattle.std.specs.Prelude.{◌≡◌, ◌==◌, ℕ, Bool, true, false, List, [], ◌∷◌, refl}
 use Rattle.std.specs.List.{list_any}
 
--- a source in memory: what is left of its bytes, the most that one read gives, the numbers of the calls that fail,
--- the calls and the faults so far
+-- a source in memory: the bytes that are left, the most bytes of one read, the numbers of the failing calls, the number of
+-- calls so far, and the error counter
 pub record SourceView : Type 0 where
   pub left : List ℕ
   pub chunk : ℕ
@@ -11,8 +11,8 @@ pub record SourceView : Type 0 where
   pub calls : ℕ
   pub faults : ℕ
 
--- a sink in memory: the bytes that it took, the most that it takes in all, the numbers of the calls that fail,
--- the calls and the faults so far
+-- a sink in memory: the bytes taken, the most bytes in all, the numbers of the failing calls, the number of calls so far,
+-- and the error counter
 pub record SinkView : Type 0 where
   pub taken : List ℕ
   pub room : ℕ
@@ -20,12 +20,12 @@ pub record SinkView : Type 0 where
   pub calls : ℕ
   pub faults : ℕ
 
--- a sink in memory that grows: the bytes that it took, and the faults so far
+-- a sink in memory that grows: the bytes taken, and the error counter
 pub record VecView : Type 0 where
   pub taken : List ℕ
   pub faults : ℕ
 
--- whether the call of this number is among those that fail
+-- whether the call of this number fails
 abbrev pub is_listed : List ℕ → ℕ → Bool
 is_listed failing call = list_any (λ number. number == call) failing
 

@@ -1,20 +1,20 @@
 #![tactic(auto)]
 
 //! Byte sources and sinks: whole reads and writes over them, devices in memory, and the standard
-//! streams. Each device counts its faults, and may tell the bytes that it has left or has taken.
+//! streams. Each device has an error counter, and may tell the bytes that it has left or has taken.
 
-mod growing;
+mod device;
 mod memory;
-mod outside;
 mod reading;
 mod streams;
 #[cfg(test)]
 mod tests;
+mod vec_sink;
 mod writing;
 
-pub use growing::VecSink;
+pub use device::{Failed, ReadError, Sink, Source, WriteFault};
 pub use memory::{MemSink, MemSource, PlainSource};
-pub use outside::{Failed, ReadError, Sink, Source, WriteFault};
 pub use reading::read_all;
 pub use streams::{HostSink, HostSource};
+pub use vec_sink::VecSink;
 pub use writing::{write_all, write_decimal};

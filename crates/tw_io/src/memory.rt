@@ -1,9 +1,9 @@
-//! Sources and sinks over bytes in memory, for tests: a fault is chosen by the number of its call.
-ghost use Rattle.std.specs.Prelude.{◌≡◌, ℕ, ◌+◌, ◌-◌, ◌<◌, ◌≤◌, ◌||◌, List, [], ◌++◌, length, take, drop, min, nat_le, Some, IfOk, IsOk, OnErr, is_err, if◌then◌else◌, vec_len, vec_capacity};
+//! Sources and sinks over bytes in memory, for tests. The calls that fail are chosen by number.
+ghost use Rattle.std.specs.Prelude.{◌≡◌, ℕ, ◌+◌, ◌-◌, ◌<◌, ◌≤◌, ◌||◌, List, [], ◌++◌, length, take, drop, min, nat_le, Some, IfOk, IsOk, OnOk, OnErr, is_err, if◌then◌else◌, vec_len, vec_capacity};
 ghost use Rattle.tw_io.specs.Devices.{Takes, IsAtEnd, Appends, Rose, next_count};
 ghost use Rattle.tw_io.specs.Memory.{SourceView, SinkView, is_listed};
 
-use crate::outside::{Failed, Sink, Source};
+use crate::device::{Failed, Sink, Source};
 use std::alloc::{AllocError, Global};
 use std::marker::Model;
 
@@ -23,7 +23,7 @@ impl Model for PlainSource {
 }
 
 impl PlainSource {
-    /// The source that gives `bytes`. Contracts see what is left of them.
+    /// The source that gives `bytes`. Contracts see the bytes that are left.
     pub fn new(bytes: Vec<u8>) -> PlainSource
         ensures { result ≡ bytes.items }
     {
@@ -36,7 +36,7 @@ impl Source for PlainSource {
 
     ghost faults = { λ _. 0 };
 
-    /// Gives as many bytes as are left and fit into `buf`.
+    /// Gives as many bytes as are left and fit into `buf`. Never fails.
     fn read(&mut self, buf: &mut [u8]) -> Result<usize, Failed>
         requires { 0 < length buf.old }
         ensures within { IfOk result (λ n. n ≤ length buf.new) }
@@ -45,13 +45,13 @@ impl Source for PlainSource {
         ensures succeeds { IsOk result }
         ensures count { IfOk result (λ n. n ≡ min (length self.old) (length buf.old)) }
     {
-        let count = copy_front(&self.bytes[self.at..], buf, usize::MAX);
+        let count = copy_prefix(&self.bytes[self.at..], buf, usize::MAX);
         self.at += count;
         Ok(count)
     }
 }
 
-/// A source that gives at most `chunk` bytes a read, and fails at chosen reads.
+/// A source that gives at most `chunk` bytes per read, and fails at chosen reads.
 #[derive(Drop)]
 pub struct MemSource {
     bytes: Vec<u8>,
@@ -77,9 +77,9 @@ impl Model for MemSource {
 }
 
 impl MemSource {
-    /// The source that gives `bytes`, at most `chunk` of them a read. The reads whose numbers,
-    /// counted from 1, are in `failing` fail, and no others; the number stays at the greatest
-    /// `u64` once there.
+    /// The source that gives `bytes`, at most `chunk` of them per read. Reads are numbered from 1.
+    /// A read fails exactly if its number is in `failing`. The number saturates at the greatest
+    /// `u64`.
     pub fn new(bytes: Vec<u8>, chunk: usize, failing: Vec<u64>) -> MemSource
         requires { 1 ≤ chunk }
         ensures { result ≡ record {
@@ -106,7 +106,9 @@ impl Source for MemSource {
 
     ghost faults = { λ s. s.faults };
 
-    /// Gives as many bytes as are left, fit into `buf` and go into one chunk.
+    /// Gives as many bytes as are left, fit into `buf` and fit into one chunk.
+    ///
+    /// - `Failed`: the number of the read is in `failing`. Nothing was given.
     fn read(&mut self, buf: &mut [u8]) -> Result<usize, Failed>
         requires { 0 < length buf.old }
         ensures within { IfOk result (λ n. n ≤ length buf.new) }
@@ -115,7 +117,7 @@ impl Source for MemSource {
         ensures end { IfOk result (λ n. n ≡ 0 → IsAtEnd (Some self.new.left)) }
         ensures nothing { OnErr result (Takes (Some self.old.left) (Some self.new.left) []) }
         ensures cause { OnErr result (Rose self.old.faults self.new.faults) }
-        ensures steady { self.old.faults ≤ self.new.faults }
+        ensures steady { OnOk result (self.new.faults ≡ self.old.faults) }
         ensures fails { is_err result ≡ is_listed self.old.failing (next_count self.old.calls) }
         ensures count { IfOk result
             (λ n. n ≡ min (length self.old.left) (min (length buf.old) self.old.chunk)) }
@@ -130,13 +132,14 @@ impl Source for MemSource {
             self.faults = self.faults.saturating_add(1);
             return Err(Failed);
         }
-        let count = copy_front(&self.bytes[self.at..], buf, self.chunk);
+        let count = copy_prefix(&self.bytes[self.at..], buf, self.chunk);
         self.at += count;
         Ok(count)
     }
 }
 
-/// A sink that keeps what it takes, within a room that is set once, and fails at chosen writes.
+/// A sink that keeps what it takes, up to a capacity fixed at its creation, and fails at chosen
+/// writes.
 #[derive(Drop)]
 pub struct MemSink {
     bytes: Vec<u8>,
@@ -161,9 +164,11 @@ impl Model for MemSink {
 }
 
 impl MemSink {
-    /// The sink that takes `room` bytes in all; no later call allocates. The writes whose numbers,
-    /// counted from 1, are in `failing` fail, and so does each write once no room is left; the
-    /// number stays at the greatest `u64` once there.
+    /// The sink that takes `room` bytes in all. No later call allocates. Writes are numbered from 1.
+    /// A write fails exactly if its number is in `failing` or `room` bytes were taken. The number
+    /// saturates at the greatest `u64`.
+    ///
+    /// - `AllocError`: out of memory for `room` bytes.
     pub fn new(alloc: Global, room: usize, failing: Vec<u64>) -> Result<MemSink, AllocError>
         ensures { IfOk result (λ sink. sink ≡ record {
           taken = [];
@@ -195,7 +200,9 @@ impl Sink for MemSink {
 
     ghost faults = { λ s. s.faults };
 
-    /// Takes the whole piece, or as much of it as there is room for.
+    /// Takes the whole piece, or the prefix that there is room for.
+    ///
+    /// - `Failed`: the number of the write is in `failing`, or `room` bytes were taken before.
     fn write(&mut self, piece: &[u8]) -> Result<usize, Failed>
         requires { 0 < length piece.now }
         ensures some { IfOk result (λ n. 0 < n) }
@@ -204,7 +211,7 @@ impl Sink for MemSink {
             (λ n. Appends (Some self.old.taken) (Some self.new.taken) (take n piece.now)) }
         ensures nothing { OnErr result (Appends (Some self.old.taken) (Some self.new.taken) []) }
         ensures cause { OnErr result (Rose self.old.faults self.new.faults) }
-        ensures steady { self.old.faults ≤ self.new.faults }
+        ensures steady { OnOk result (self.new.faults ≡ self.old.faults) }
         ensures fails { is_err result
             ≡ (is_listed self.old.failing (next_count self.old.calls)
             || nat_le self.old.room (length self.old.taken)) }
@@ -229,9 +236,9 @@ impl Sink for MemSink {
     }
 }
 
-// Copies as many bytes as `from` has, `buf` holds and `most` allows to the front of `buf`, and
-// gives their number.
-fn copy_front(from: &[u8], buf: &mut [u8], most: usize) -> usize
+// Copies a prefix of `from`, of at most `most` bytes and the length of `buf`, into `buf`. Returns
+// its length.
+fn copy_prefix(from: &[u8], buf: &mut [u8], most: usize) -> usize
     ensures count { result ≡ min (length from.now) (min (length buf.old) most) }
     ensures copied { take result buf.new ≡ take result from.now }
 {

@@ -1,12 +1,12 @@
 //! The standard streams of the process, as a source and a sink.
-ghost use Rattle.std.specs.Prelude.{◌≡◌, ℕ, ◌<◌, ◌≤◌, List, [], length, take, Option, None, IfOk, OnErr, is_err, IfSome, if◌then◌else◌};
+ghost use Rattle.std.specs.Prelude.{◌≡◌, ℕ, ◌<◌, ◌≤◌, List, [], length, take, Option, None, IfOk, OnOk, OnErr, is_err, IfSome, if◌then◌else◌};
 ghost use Rattle.tw_io.specs.Devices.{Takes, IsAtEnd, Appends, Rose, next_count};
 
-use crate::outside::{Failed, Sink, Source};
+use crate::device::{Failed, Sink, Source};
 use std::io::{Read, Stdin, Stdout, Write};
 use std::marker::Model;
 
-/// Standard input. Contracts see its count of faults, and nothing of the bytes.
+/// Standard input. Contracts see its error counter, and nothing of the bytes.
 #[derive(Drop)]
 pub struct HostSource {
     stdin: Stdin,
@@ -20,7 +20,7 @@ impl Model for HostSource {
 }
 
 impl HostSource {
-    /// The source over standard input, with no fault yet.
+    /// The source over standard input, with its error counter at 0.
     pub fn new(stdin: Stdin) -> HostSource
         ensures { result ≡ 0 }
     {
@@ -33,7 +33,9 @@ impl Source for HostSource {
 
     ghost faults = { λ count. count };
 
-    /// One read of standard input into the whole of `buf`; each error is a fault.
+    /// One read of standard input into `buf`.
+    ///
+    /// - `Failed`: the read had an I/O error.
     fn read(&mut self, buf: &mut [u8]) -> Result<usize, Failed>
         requires { 0 < length buf.old }
         ensures within { IfOk result (λ n. n ≤ length buf.new) }
@@ -41,7 +43,7 @@ impl Source for HostSource {
         ensures end { IfOk result (λ n. n ≡ 0 → IsAtEnd None) }
         ensures nothing { OnErr result (Takes None None []) }
         ensures cause { OnErr result (Rose self.old self.new) }
-        ensures steady { self.old ≤ self.new }
+        ensures steady { OnOk result (self.new ≡ self.old) }
         ensures count { self.new ≡ (if is_err result then next_count self.old else self.old) }
     {
         match self.stdin.read(buf) {
@@ -54,7 +56,7 @@ impl Source for HostSource {
     }
 }
 
-/// Standard output. Contracts see its count of faults, and nothing of the bytes.
+/// Standard output. Contracts see its error counter, and nothing of the bytes.
 #[derive(Drop)]
 pub struct HostSink {
     stdout: Stdout,
@@ -68,7 +70,7 @@ impl Model for HostSink {
 }
 
 impl HostSink {
-    /// The sink over standard output, with no fault yet.
+    /// The sink over standard output, with its error counter at 0.
     pub fn new(stdout: Stdout) -> HostSink
         ensures { result ≡ 0 }
     {
@@ -81,8 +83,9 @@ impl Sink for HostSink {
 
     ghost faults = { λ count. count };
 
-    /// One write to standard output, flushed; each error is a fault, and so is a write that took
-    /// nothing.
+    /// One write to standard output, flushed.
+    ///
+    /// - `Failed`: the write or the flush had an I/O error, or the write took nothing.
     fn write(&mut self, piece: &[u8]) -> Result<usize, Failed>
         requires { 0 < length piece.now }
         ensures some { IfOk result (λ n. 0 < n) }
@@ -90,7 +93,7 @@ impl Sink for HostSink {
         ensures bytes { IfOk result (λ n. Appends None None (take n piece.now)) }
         ensures nothing { OnErr result (Appends None None []) }
         ensures cause { OnErr result (Rose self.old self.new) }
-        ensures steady { self.old ≤ self.new }
+        ensures steady { OnOk result (self.new ≡ self.old) }
         ensures count { self.new ≡ (if is_err result then next_count self.old else self.old) }
     {
         match write_and_flush(self.stdout, piece) {
@@ -103,7 +106,8 @@ impl Sink for HostSink {
     }
 }
 
-// The bytes that standard output took and passed on; `None` if it failed or took none.
+// Writes `piece` to standard output and flushes it. Returns the number of bytes written; `None` if
+// that is 0 or a call had an I/O error.
 fn write_and_flush(mut stdout: Stdout, piece: &[u8]) -> Option<usize>
     ensures some { IfSome result (λ n. 0 < n) }
     ensures within { IfSome result (λ n. n ≤ length piece.now) }

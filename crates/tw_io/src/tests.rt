@@ -1,4 +1,4 @@
-//! Each call once at a concrete device, with memory to spare, and one fault in mid-stream.
+//! Each call once at a concrete device with ample memory, a device fault between two reads, and the texts of the errors.
 use super::*;
 use std::alloc::{AllocError, Global};
 
@@ -65,7 +65,33 @@ fn uses_the_standard_streams(rt: HostRuntime) {
         )
     );
     let mut output = HostSink::new(rt.stdout());
-    assert!(rt; write_all(&mut output, b"").is_ok());
+    assert!(rt; write_all(&mut output, b"standard output\n").is_ok());
+}
+
+#[test]
+fn describes_errors(rt: HostRuntime) -> Result<(), AllocError> {
+    for (text, expected) in [
+        (format!(in rt.alloc(); "{Failed}")?, "device fault"),
+        (
+            format!(in rt.alloc(); "{WriteFault}")?,
+            "device fault while writing",
+        ),
+        (
+            format!(in rt.alloc(); "{}", ReadError::ReadFault)?,
+            "device fault while reading",
+        ),
+        (
+            format!(in rt.alloc(); "{}", ReadError::TooLong)?,
+            "input too long",
+        ),
+        (
+            format!(in rt.alloc(); "{}", ReadError::Memory)?,
+            "out of memory",
+        ),
+    ] {
+        assert_eq!(rt; text.as_str(), expected);
+    }
+    Ok(())
 }
 
 #[test]

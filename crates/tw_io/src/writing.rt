@@ -1,17 +1,18 @@
 //! Writing a whole text to a sink.
 ghost use Rattle.std.specs.Prelude.{◌≡◌, length, decimal, Ok, OnErr};
-ghost use Rattle.tw_io.specs.Devices.{Wrote, AppendsPart};
+ghost use Rattle.tw_io.specs.Devices.{Wrote, AppendsProperPrefix};
 
-use crate::outside::{Failed, Sink, WriteFault};
+use crate::device::{Failed, Sink, WriteFault};
 use itoa::Buffer;
 
-/// Writes all of `piece`; an empty one makes no call of the sink.
+/// Writes all of `piece`. An empty piece makes no call of the sink. The error counter is unchanged.
 ///
-/// At a fault the sink has taken a front of the piece, and not the whole.
+/// - `WriteFault`: a write failed, and the sink's error counter rose. The sink took a proper prefix
+///   of the piece.
 pub fn write_all<K: Sink>(sink: &mut K, piece: &[u8]) -> Result<(), WriteFault>
     ensures wrote { Wrote K.taken K.faults sink.old sink.new result piece.now }
     ensures unfinished { OnErr result
-        (AppendsPart (K.taken sink.old) (K.taken sink.new) piece.now) }
+        (AppendsProperPrefix (K.taken sink.old) (K.taken sink.new) piece.now) }
     ensures empty { length piece.now ≡ 0 → (result ≡ Ok tt) × (sink.new ≡ sink.old) }
 {
     let mut done = 0;
@@ -26,11 +27,11 @@ pub fn write_all<K: Sink>(sink: &mut K, piece: &[u8]) -> Result<(), WriteFault>
 
 /// Writes `n` in decimal, without leading zeros, as one piece.
 ///
-/// At a fault the sink has taken a front of the digits, and not the whole.
+/// - `WriteFault`: as of `write_all`, with the digits as the piece.
 pub fn write_decimal<K: Sink>(sink: &mut K, n: u64) -> Result<(), WriteFault>
     ensures wrote { Wrote K.taken K.faults sink.old sink.new result (decimal n) }
     ensures unfinished { OnErr result
-        (AppendsPart (K.taken sink.old) (K.taken sink.new) (decimal n)) }
+        (AppendsProperPrefix (K.taken sink.old) (K.taken sink.new) (decimal n)) }
 {
     write_all(sink, Buffer::new().format(n).as_bytes())
 }

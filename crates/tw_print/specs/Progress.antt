@@ -1,20 +1,19 @@
 -- Printing piece by piece, where all that comes behind a fault is left out.
-use Rattle.std.specs.Prelude.{◌≡◌, ℕ, ◌≤◌, List, Option, Result, Ok, Err}
-use Rattle.tw_io.specs.Devices.{Rose, Appends, AppendsFront}
-use Rattle.tw_io.specs.declared.outside.WriteFault.{WriteFault}
+use Rattle.std.specs.Prelude.{◌≡◌, ℕ, List, Option, Result, Ok, Err}
+use Rattle.tw_io.specs.Devices.{Rose, Appends, AppendsPrefix}
+use Rattle.tw_io.specs.declared.device.WriteFault.{WriteFault}
 use Rattle.tw_print.specs.declared.progress.Progress.{Progress}
 use Rattle.tw_print.specs.declared.progress.Progress.TheVariants.{Going, Broken}
 
 -- the text was printed whole
 pub record Printed {K : Type 0} (taken : K → Option (List ℕ)) (faults : K → ℕ) (old new : K) (text : List ℕ) : Type 0 where
   pub whole : Appends (taken old) (taken new) text
-  pub steady : faults old ≤ faults new
+  pub steady : faults new ≡ faults old
 
 -- the sink failed in the text
 pub record Failed {K : Type 0} (taken : K → Option (List ℕ)) (faults : K → ℕ) (old new : K) (text : List ℕ) : Type 0 where
-  pub front : AppendsFront (taken old) (taken new) text
+  pub front : AppendsPrefix (taken old) (taken new) text
   pub cause : Rose (faults old) (faults new)
-  pub steady : faults old ≤ faults new
 
 abbrev pub GoesOn : {K : Type 0} → (K → Option (List ℕ)) → (K → ℕ) → K → K → Progress → Progress → List ℕ → Type 0
 GoesOn taken faults old new Going Going text = Printed taken faults old new text

@@ -1,4 +1,4 @@
-//! The program: standard input and output round the top call.
+//! The program: the top call on standard input and standard output.
 #![tactic(auto)]
 
 use std::alloc::AllocError;
@@ -8,7 +8,21 @@ use std::process::ExitCode;
 use tower::{Status, Words, tower_main};
 use tw_io::{HostSink, HostSource};
 
-/// The arguments behind the program's name. None at all where one isn't UTF-8: no command is called so.
+/// The commands and options, printed on standard error after a usage error.
+const SYNOPSIS: &str = "\
+usage: yathrefon COMMAND [OPTION..]    the input is read from standard input, the answer goes to standard output
+
+  format     print a program in its canonical form
+  compile    compile a program to a gate file
+    --word W     bits of a word, from 1 to 32
+    --addr A     bits of an address, from 1 to 8
+    --entry F    the function to compile
+    --inverse    the inverse circuit (optional)
+  sim        run a gate file on lines of bits: the input is the gate file, a line `%%`, and the lines
+  invert     print the inverse of a gate file
+";
+
+/// The command-line arguments. If one is invalid UTF-8, the list is empty, which is no command either.
 fn arguments(rt: &HostRuntime) -> Result<Words, AllocError> {
     let mut words = Words::new(rt.alloc());
     let arguments = match env::args(rt) {
@@ -32,5 +46,10 @@ fn run(rt: &HostRuntime) -> Status {
 }
 
 fn main(rt: HostRuntime) -> ExitCode {
-    ExitCode::from(run(&rt).number())
+    let status = run(&rt);
+    if status == Status::Usage {
+        // The refusal is on standard output already, so an error of standard error is ignored.
+        let _ = eprint!(rt; "{SYNOPSIS}");
+    }
+    ExitCode::from(status.number())
 }

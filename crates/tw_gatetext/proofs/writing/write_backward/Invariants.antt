@@ -1,5 +1,5 @@
 use Rattle.std.proofs.Common.{Result, ◌≤◌, length, map, take}
-use Rattle.tw_io.specs.declared.outside.WriteFault.{WriteFault}
+use Rattle.tw_io.specs.declared.device.WriteFault.{WriteFault}
 use Rattle.tw_io.specs.Devices.{Wrote}
 use Rattle.tw_gate.specs.Gates.{plain, inverse}
 use Rattle.tw_gatetext.specs.Text.{lines}

@@ -1,6 +1,6 @@
 use Rattle.std.proofs.Common.{Result, map, drop}
 use Rattle.std.specs.List.{AllByRecursion}
-use Rattle.tw_io.specs.declared.outside.WriteFault.{WriteFault}
+use Rattle.tw_io.specs.declared.device.WriteFault.{WriteFault}
 use Rattle.tw_io.specs.Devices.{Wrote}
 use Rattle.tw_gate.specs.Gates.{plain}
 use Rattle.tw_gatetext.specs.Text.{lines, HasFewControls}

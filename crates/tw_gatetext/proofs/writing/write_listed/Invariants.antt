@@ -1,6 +1,6 @@
 use Rattle.std.proofs.Common.{Result, drop}
 use Rattle.std.specs.List.{AllByRecursion}
-use Rattle.tw_io.specs.declared.outside.WriteFault.{WriteFault}
+use Rattle.tw_io.specs.declared.device.WriteFault.{WriteFault}
 use Rattle.tw_io.specs.Devices.{Wrote}
 use Rattle.tw_gatetext.specs.Text.{lines, HasFewControls}
 use Rattle.tw_gatetext.proofs.writing.write_listed.Given as goal

@@ -1,25 +1,27 @@
 use Rattle.std.proofs.Common.{ℕ, ◌+◌, ◌-◌, ◌<◌, List, [], ◌++◌, length, take, drop, Option, sym, ap, ◌∙◌, subst, take-append-drop, length-drop, rules, arith}
 use Rattle.std.proofs.Math.Seq.{take-add}
 use Rattle.std.proofs.lemmas.List.{take_rest}
-use Rattle.tw_io.specs.Devices.{Appends, AppendsPart}
-use Rattle.tw_io.proofs.Devices.{appends_both, appends_none, appends_part_front}
+use Rattle.tw_io.specs.Devices.{Appends, AppendsProperPrefix}
+use Rattle.tw_io.proofs.Devices.{appends_both, appends_none}
 use Rattle.tw_io.proofs.writing.write_all.Goals as goal
 
--- the first bytes of a piece were taken, then some of its rest
+-- a prefix of a piece was taken, then some bytes of its suffix
 sent_more : (a b c : Option (List ℕ)) (piece : List ℕ) (done count : ℕ) → Appends a b (take done piece) → Appends b c (take count (take (length piece - done) (drop done piece))) → Appends a c (take (done + count) piece)
 sent_more a b c piece done count first second =
     let text = ap (take count) (take_rest piece done) in
-    let all = ap (λ (rest : List ℕ). take done piece ++ rest) text ∙ sym (take-add done count piece) in
+    let all = ap (λ (more : List ℕ). take done piece ++ more) text ∙ sym (take-add done count piece) in
     subst (λ (sent : List ℕ). Appends a c sent) all (appends_both a b c _ _ first second)
 
--- the first bytes of a piece were taken, then nothing
-sent_part : (a b c : Option (List ℕ)) (piece : List ℕ) (done : ℕ) → done < length piece → Appends a b (take done piece) → Appends b c [] → AppendsPart a c piece
+-- a prefix of a piece was taken, then nothing
+sent_part : (a b c : Option (List ℕ)) (piece : List ℕ) (done : ℕ) → done < length piece → Appends a b (take done piece) → Appends b c [] → AppendsProperPrefix a c piece
 sent_part a b c piece done more first nothing = record {
-  front = take done piece;
-  rest = drop done piece;
-  split = sym (take-append-drop done piece);
-  unfinished = omega (arith, length-drop {A = ℕ});
-  taken = appends_none a b c (take done piece) first nothing;
+  taken = record {
+    prefix = take done piece;
+    suffix = drop done piece;
+    split = sym (take-append-drop done piece);
+    taken = appends_none a b c (take done piece) first nothing;
+  };
+  proper = omega (arith, length-drop {A = ℕ});
 }
 
 pub loop-done-preserved : goal.loop-done-preserved
@@ -37,7 +39,7 @@ returns-in-Err-clause-unfinished g c =
 pub returns-in-Err-clause-wrote : goal.returns-in-Err-clause-wrote
 returns-in-Err-clause-wrote g c = record {
   whole = tt;
-  broken = appends_part_front _ _ _ (sent_part _ _ _ _ _ c.loop-done-test.true c.loop-done.invariant.sent c.in-Err.ensures.nothing);
+  broken = (sent_part _ _ _ _ _ c.loop-done-test.true c.loop-done.invariant.sent c.in-Err.ensures.nothing).taken;
   cause = search rules;
   steady = search rules;
 }

@@ -6,7 +6,7 @@ abbrev pub invariant-loop-done : goal.invariant-loop-done
 invariant-loop-done g l = record {
   sent : Appends (g.K.Sink.taken l.fn.sink) (g.K.Sink.taken l.sink) (take l.done l.piece);
   within : l.done ≤ length l.piece;
-  steady : g.K.Sink.faults l.fn.sink ≤ g.K.Sink.faults l.sink;
+  steady : g.K.Sink.faults l.sink ≡ g.K.Sink.faults l.fn.sink;
   untouched : length l.piece ≡ 0 → l.sink ≡ l.fn.sink;
 }
 

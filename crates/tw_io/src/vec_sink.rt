@@ -1,13 +1,14 @@
 //! A sink that keeps all that it takes in memory.
-ghost use Rattle.std.specs.Prelude.{◌≡◌, ◌<◌, ◌≤◌, [], length, take, Some, IfOk, OnErr, is_err, if◌then◌else◌};
+ghost use Rattle.std.specs.Prelude.{◌≡◌, ◌<◌, ◌≤◌, [], length, take, Some, IfOk, OnOk, OnErr, is_err, if◌then◌else◌};
 ghost use Rattle.tw_io.specs.Devices.{Appends, Rose, next_count};
 ghost use Rattle.tw_io.specs.Memory.{VecView};
 
-use crate::outside::{Failed, Sink};
+use crate::device::{Failed, Sink};
 use std::alloc::{AllocError, Global};
 use std::marker::Model;
 
-/// A sink that grows with what it takes. A write fails where it finds no memory; no clause says that it does only there.
+/// A sink that grows with what it takes. A write fails if memory runs out; no clause says that it
+/// fails only then.
 #[derive(Drop)]
 pub struct VecSink {
     bytes: Vec<u8>,
@@ -21,7 +22,7 @@ impl Model for VecSink {
 }
 
 impl VecSink {
-    /// The sink that has taken nothing.
+    /// The sink that has taken nothing. Does not allocate.
     pub fn new(alloc: Global) -> VecSink
         ensures { result ≡ record { taken = []; faults = 0 } }
     {
@@ -45,6 +46,8 @@ impl Sink for VecSink {
     ghost faults = { λ s. s.faults };
 
     /// Takes the whole piece.
+    ///
+    /// - `Failed`: out of memory for the piece. Nothing was taken.
     fn write(&mut self, piece: &[u8]) -> Result<usize, Failed>
         requires { 0 < length piece.now }
         ensures some { IfOk result (λ n. 0 < n) }
@@ -53,7 +56,7 @@ impl Sink for VecSink {
             (λ n. Appends (Some self.old.taken) (Some self.new.taken) (take n piece.now)) }
         ensures nothing { OnErr result (Appends (Some self.old.taken) (Some self.new.taken) []) }
         ensures cause { OnErr result (Rose self.old.faults self.new.faults) }
-        ensures steady { self.old.faults ≤ self.new.faults }
+        ensures steady { OnOk result (self.new.faults ≡ self.old.faults) }
         ensures count { IfOk result (λ n. n ≡ length piece.now) }
         ensures state { self.new ≡ record {
           taken = self.new.taken;

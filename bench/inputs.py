@@ -1,0 +1,29 @@
+"""Inputs for the scripts of this folder."""
+import random
+from pathlib import Path
+
+PRINTED = (Path(__file__).resolve().parent.parent / "examples/length.printed").read_text()
+
+
+def functions(size):
+    """A program of about this many bytes: one type and many small functions."""
+    head, function = PRINTED.split("\n", 1)
+    return head + "\n" + function * (size // len(function))
+
+
+def gate_file(gates, wires):
+    """A gate file with so many gates on so many wires. Each gate has 0 to 3 controls."""
+    numbers = random.Random(1)
+    lines, t_count = [], 0
+    for _ in range(gates):
+        *controls, target = numbers.sample(range(wires), numbers.choice((1, 1, 2, 2, 3, 3, 4)))
+        name, weight = (("x", 0), ("cx", 0), ("ccx", 7), ("mcx 3", 21))[len(controls)]
+        lines.append(" ".join(map(str, (name, *sorted(controls), target))) + "\n")
+        t_count += weight
+    return f"tower-gates 1\nlevel mcx\nwires {wires}\ngates {gates}\nt-count {t_count}\n" + "".join(lines) + "end\n"
+
+
+def bit_lines(count, wires):
+    """The separator line and so many lines of bits, which follow a gate file in the input of `sim`."""
+    numbers = random.Random(2)
+    return "%%\n" + "".join("".join(numbers.choices("01", k=wires)) + "\n" for _ in range(count))
