@@ -2,7 +2,7 @@
 use Rattle.std.proofs.Common.{◌≡◌, ◌∙◌, ℕ, Bool, true, false, cond, List, [], ◌∷◌, ◌++◌, length, refl}
 use Rattle.tw_bits.specs.Lists.{flipped}
 use Rattle.tw_bits.proofs.Laws.{length-flipped, bit_at-flipped}
-use Rattle.tw_gate.specs.Gates.{PlainGate, X, H, T, Tdg, all_one, act_gate, act, IsNone}
+use Rattle.tw_gate.specs.Gates.{PlainGate, X, H, T, Tdg, all_one, act_gate, act, IsNotAmong}
 
 pub act-append : (xs ys : List PlainGate) (bits : List Bool) → act (xs ++ ys) bits ≡ act ys (act xs bits)
 act-append [] ys bits = refl
@@ -19,7 +19,7 @@ pub length-act : (gates : List PlainGate) (bits : List Bool) → length (act gat
 length-act [] bits = refl
 length-act (gate ∷ gates) bits = length-act gates (act_gate gate bits) ∙ length-act_gate gate bits
 
-pub all_one-flipped : (controls : List ℕ) (bits : List Bool) (target : ℕ) → IsNone target controls → all_one controls (flipped bits target) ≡ all_one controls bits
+pub all_one-flipped : (controls : List ℕ) (bits : List Bool) (target : ℕ) → IsNotAmong target controls → all_one controls (flipped bits target) ≡ all_one controls bits
 all_one-flipped [] bits target none = refl
 all_one-flipped (wire ∷ controls) bits target none =
     let one = bit_at-flipped bits target wire none.0 in

@@ -1,5 +1,6 @@
 -- Gates as plain data, and what a list of them does to bits.
-use Rattle.std.specs.Prelude.{◌≡◌, ℕ, ◌<◌, Bool, true, false, ◌&&◌, if◌then◌else◌, List, [], ◌∷◌, ◌++◌, refl}
+use Rattle.std.proofs.Common.{arith}
+use Rattle.std.specs.Prelude.{◌≡◌, ◌≢◌, ℕ, ◌<◌, Bool, true, false, ◌&&◌, if◌then◌else◌, List, [], ◌∷◌, ◌++◌, length, refl}
 use Rattle.std.specs.List.{AllByRecursion}
 use Rattle.tw_bits.specs.Lists.{bit_at, flipped}
 use Rattle.tw_gate.specs.declared.gate.Gate.{Gate}
@@ -24,7 +25,7 @@ abbrev pub all_one : List ℕ → List Bool → Bool
 all_one [] bits = true
 all_one (wire ∷ wires) bits = bit_at bits wire && all_one wires bits
 
--- an X gate flips its target exactly where all its controls are 1; the others move no basis state here
+-- an X gate flips its target exactly if all its controls are 1; the others move no basis state here
 abbrev pub act_gate : PlainGate → List Bool → List Bool
 act_gate (X controls target) bits = if all_one controls bits then flipped bits target else bits
 act_gate _ bits = bits
@@ -45,7 +46,7 @@ abbrev pub inverse : List PlainGate → List PlainGate
 inverse [] = []
 inverse (gate ∷ gates) = inverse gates ++ inverse_gate gate ∷ []
 
--- the controls of a gate; only X gates have some
+-- the controls of a gate; only X gates have any
 abbrev pub controls_of : PlainGate → List ℕ
 controls_of (X controls target) = controls
 controls_of _ = []
@@ -57,17 +58,39 @@ HasWiresBelow wires (H wire) = wire < wires
 HasWiresBelow wires (T wire) = wire < wires
 HasWiresBelow wires (Tdg wire) = wire < wires
 
--- the number is none of these
-abbrev pub IsNone : ℕ → List ℕ → Type 0
-IsNone n [] = Unit {0}
-IsNone n (a ∷ rest) = ¬ (n ≡ a) × IsNone n rest
+-- each number is below the next one
+abbrev pub Ascends : List ℕ → Type 0
+Ascends [] = Unit {0}
+Ascends (a ∷ []) = Unit {0}
+Ascends (a ∷ b ∷ rest) = (a < b) × Ascends (b ∷ rest)
 
--- the target of an X gate is none of its controls
+-- the number is not among these
+abbrev pub IsNotAmong : ℕ → List ℕ → Type 0
+IsNotAmong n others = AllByRecursion (λ a. n ≢ a) others
+
+-- the target of an X gate is not among its controls
 abbrev pub SparesControls : PlainGate → Type 0
-SparesControls (X controls target) = IsNone target controls
+SparesControls (X controls target) = IsNotAmong target controls
 SparesControls _ = Unit {0}
 
--- the gates of a list, or where the Bool is true those of its inverse
+-- the controls of a gate ascend strictly, and its target is not among them
+abbrev pub IsProper : PlainGate → Type 0
+IsProper gate = Ascends (controls_of gate) × SparesControls gate
+
+-- a gate that permutes basis states: an X gate; Hadamard and T gates change amplitudes
+abbrev pub IsClassical : PlainGate → Type 0
+IsClassical (X controls target) = Unit {0}
+IsClassical _ = ⊥
+
+-- the gates are X gates, and permute the lists of so many bits: these stay as long, and the gates and their inverse undo each
+-- other
+pub record IsPermutation (wires : ℕ) (gates : List PlainGate) : Type 0 where
+  pub classical : AllByRecursion IsClassical gates
+  pub wide : (bits : List Bool) → length bits ≡ wires → length (act gates bits) ≡ wires
+  pub undone : (bits : List Bool) → act (inverse gates) (act gates bits) ≡ bits
+  pub undoes : (bits : List Bool) → act gates (act (inverse gates) bits) ≡ bits
+
+-- the gates of a list, or if the Bool is true those of its inverse
 abbrev pub directed : Bool → List PlainGate → List PlainGate
 directed true gates = inverse gates
 directed false gates = gates
@@ -96,6 +119,18 @@ all_one-both = refl
 
 pub all_one-not : all_one (0 ∷ 1 ∷ []) (true ∷ false ∷ true ∷ []) ≡ false
 all_one-not = refl
+
+pub Ascends-two : Ascends (2 ∷ 5 ∷ [])
+Ascends-two = (omega arith, tt)
+
+pub Ascends-same : ¬ Ascends (2 ∷ 2 ∷ [])
+Ascends-same ascends = omega (arith, ascends.0)
+
+pub IsProper-toffoli : IsProper (X (5 ∷ 6 ∷ []) 4)
+IsProper-toffoli = ((omega arith, tt), ((λ (same : 4 ≡ 5). omega (arith, same)), ((λ (same : 4 ≡ 6). omega (arith, same)), tt)))
+
+pub IsProper-target : ¬ IsProper (X (2 ∷ []) 2)
+IsProper-target proper = proper.1.0 refl
 
 pub directed-inverse : directed true (T 0 ∷ H 1 ∷ []) ≡ H 1 ∷ Tdg 0 ∷ []
 directed-inverse = refl

@@ -11,7 +11,7 @@ grew_none a = sym (append-nil a)
 pub grew_both : (a b c xs ys : List PlainGate) → Grew a b xs → Grew b c ys → Grew a c (xs ++ ys)
 grew_both a b c xs ys first second = second ∙ ap (λ (front : List PlainGate). front ++ ys) first ∙ append_assoc a xs ys
 
--- xs, then a front of ys, is a front of both
+-- xs, then a prefix of ys, is a prefix of both
 pub grew_front_later : (a b c xs ys : List PlainGate) → Grew a b xs → GrewFront b c ys → GrewFront a c (xs ++ ys)
 grew_front_later a b c xs ys first part = record {
   front = xs ++ part.front;
@@ -20,7 +20,7 @@ grew_front_later a b c xs ys first part = record {
   grew = grew_both a b c xs part.front first part.grew;
 }
 
--- a front of xs is a front of a longer list
+-- a prefix of xs is a prefix of a longer list
 pub grew_front_longer : (a b xs ys : List PlainGate) → GrewFront a b xs → GrewFront a b (xs ++ ys)
 grew_front_longer a b xs ys part = record {
   front = part.front;
@@ -29,6 +29,6 @@ grew_front_longer a b xs ys part = record {
   grew = part.grew;
 }
 
--- a list that stays as it is took a front of every list
+-- a list that stays as it is took a prefix of every list
 pub grew_front_none : (a xs : List PlainGate) → GrewFront a a xs
 grew_front_none a xs = record { front = []; rest = xs; split = refl; grew = grew_none a }

@@ -1,24 +1,21 @@
 -- What a call that gives gates to a taker did, and what a list of gates took.
-use Rattle.std.specs.Prelude.{◌≡◌, ℕ, ◌+◌, ◌-◌, ◌^◌, ◌≤◌, min, List, [], ◌∷◌, ◌++◌, Result, OnOk, OnErr, refl}
+use Rattle.std.specs.Prelude.{◌≡◌, ℕ, ◌≤◌, List, [], ◌∷◌, ◌++◌, Result, OnOk, OnErr, refl}
+use Rattle.tw_io.specs.Devices.{Rose}
 use Rattle.tw_gate.specs.declared.out.Stopped.{Stopped}
 use Rattle.tw_gate.specs.Gates.{PlainGate, T, H}
 
--- a count of 64 bits rose, or stands at its last value
-abbrev pub Rose : ℕ → ℕ → Type 0
-Rose before now = min (before + 1) (2 ^ 64 - 1) ≤ now
-
--- what a call that gives gates to a taker did: Ok took them all; Stopped broke in them, and the taker's count rose
+-- what a call that gives gates to a taker did: Ok took them all; Stopped broke in them, and the taker's fault counter rose
 pub record Gave {O : Type 0} (took broke : O → O → List PlainGate → Type 0) (faults : O → ℕ) (old new : O) (result : Result (Unit {0}) Stopped) (gates : List PlainGate) : Type 0 where
   pub whole : OnOk result (took old new gates)
   pub broken : OnErr result (broke old new gates)
   pub cause : OnErr result (Rose (faults old) (faults new))
   pub steady : faults old ≤ faults new
 
--- a list took these gates: they stand behind its own
+-- a list took these gates: they follow its own
 abbrev pub Grew : List PlainGate → List PlainGate → List PlainGate → Type 0
 Grew before now gates = now ≡ before ++ gates
 
--- a list took a front of these gates
+-- a list took a prefix of these gates
 pub record GrewFront (before now gates : List PlainGate) : Type 0 where
   pub front : List PlainGate
   pub rest : List PlainGate

@@ -1,12 +1,13 @@
--- What gates weigh in T gates.
+-- The T-count of gates.
 use Rattle.std.specs.Prelude.{◌≡◌, ℕ, zero, suc, ◌+◌, ◌-◌, ◌*◌, List, [], ◌∷◌, length, refl}
+use Rattle.tw_gate.specs.declared.gate.TheConstants.{TOFFOLI_T_COUNT}
 use Rattle.tw_gate.specs.Gates.{PlainGate, X, H, T, Tdg, example}
 
--- the T-count of an X gate by its number of controls: a Toffoli takes 7 T gates, and c controls take 2c - 3 Toffolis
+-- the T-count of an X gate by its number of controls: c controls, of two or more, take 2c - 3 Toffolis
 abbrev pub weight : ℕ → ℕ
 weight zero = 0
 weight (suc zero) = 0
-weight controls = 7 * (2 * controls - 3)
+weight controls = TOFFOLI_T_COUNT * (2 * controls - 3)
 
 -- the T-count of a gate
 abbrev pub gate_weight : PlainGate → ℕ
@@ -20,7 +21,6 @@ abbrev pub t_count : List PlainGate → ℕ
 t_count [] = 0
 t_count (gate ∷ gates) = gate_weight gate + t_count gates
 
--- the weights of 0 to 5 controls
 pub weight_0 : weight 0 ≡ 0
 weight_0 = refl
 

@@ -1,4 +1,4 @@
-//! Gates done to bits.
+//! Gates applied to bits.
 ghost use Rattle.std.specs.Prelude.{◌≡◌, ◌<◌, length};
 ghost use Rattle.std.specs.List.{AllByRecursion};
 ghost use Rattle.tw_gate.specs.Gates.{plain, act_gate, act, all_one, HasWiresBelow};
@@ -20,7 +20,7 @@ fn are_one(wires: &[u32], bits: &Bits) -> bool
     true
 }
 
-/// Does a gate to bits, one for each wire from 0: an X gate flips the bit of its target exactly where all its controls are 1.
+/// Applies a gate to bits, one for each wire from 0: an X gate flips the bit of its target exactly if all its controls are 1.
 /// The other gates change no bits. All wires of the gate are below the number of bits. It takes no memory.
 pub fn apply(gate: &Gate, bits: &mut Bits)
     requires { HasWiresBelow (length bits.old) (plain gate.now) }
@@ -37,7 +37,7 @@ pub fn apply(gate: &Gate, bits: &mut Bits)
     }
 }
 
-/// Does the gates of a list to bits, in order. All wires of the gates are below the number of bits. It takes no memory.
+/// Applies the gates of a list to bits, in order. All wires of the gates are below the number of bits. It takes no memory.
 pub fn apply_list(list: &GateList, bits: &mut Bits)
     requires { AllByRecursion (HasWiresBelow (length bits.old)) list.now }
     ensures bits { bits.new ≡ act list.now bits.old }

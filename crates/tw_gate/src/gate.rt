@@ -2,6 +2,9 @@ ghost use Rattle.std.specs.Prelude.{◌≡◌, ◌≤◌, ◌^◌, length};
 ghost use Rattle.tw_gate.specs.Gates.{plain, inverse_gate, controls_of};
 ghost use Rattle.tw_gate.specs.Weight.{weight, gate_weight};
 
+/// The T-count of a Toffoli, an X gate of two controls.
+pub const TOFFOLI_T_COUNT: u64 = 7;
+
 /// Which kinds of gates a file may hold.
 #[derive(Debug, Clone, Copy, PartialEq, Eq)]
 pub enum Level {
@@ -16,8 +19,8 @@ pub enum Level {
 /// A gate, which borrows its controls.
 #[derive(Debug, Clone, Copy)]
 pub enum Gate<'g> {
-    /// Flips the target exactly where all controls are 1.
-    /// In a valid file the controls are strictly ascending and do not hold the target.
+    /// Flips the target exactly if all controls are 1.
+    /// In a valid file the controls ascend strictly, and the target is not among them.
     X { controls: &'g [u32], target: u32 },
     /// The Hadamard gate on a wire.
     H(u32),
@@ -39,8 +42,8 @@ impl<'g> Gate<'g> {
         }
     }
 
-    /// How many T gates it takes: 1 for T and its inverse, none for Hadamard gates and for X gates of at most one control, 7 for
-    /// a Toffoli, and `7 * (2c - 3)` for an X gate of `c` controls, at most `2^32` of them. docs/CIRCUITS.md has the source.
+    /// Its T-count: 1 for T and its inverse; 0 for Hadamard gates and X gates of at most one control; for an X gate of `c` controls,
+    /// from 2 to `2^32`, that of `2c - 3` Toffolis. docs/CIRCUITS.md has the source.
     pub fn t_count(&self) -> u64
         requires { length (controls_of (plain self.now)) ≤ 2 ^ 32 }
         ensures { result ≡ gate_weight (plain self.now) }
@@ -53,7 +56,7 @@ impl<'g> Gate<'g> {
     }
 }
 
-/// How many T gates an X gate of so many controls takes.
+/// The T-count of an X gate of so many controls.
 fn weight(controls: u64) -> u64
     requires { controls ≤ 2 ^ 32 }
     ensures { result ≡ weight controls }
@@ -61,6 +64,6 @@ fn weight(controls: u64) -> u64
     if controls < 2 {
         0
     } else {
-        7 * (2 * controls - 3)
+        TOFFOLI_T_COUNT * (2 * controls - 3)
     }
 }

@@ -1,5 +1,5 @@
 //! Gates on wires, which are numbered from 0, lists of them, what they do to bits, and what takes them.
-//! The definitions of `specs/` say what a list of gates does to bits, what its inverse is, and what a gate weighs in T gates.
+//! The definitions of `specs/` say what a list of gates does to bits, what its inverse is, and what its T-count is.
 #![tactic(auto)]
 
 mod acting;
@@ -10,6 +10,6 @@ mod out;
 mod tests;
 
 pub use acting::{apply, apply_list};
-pub use gate::{Gate, Level};
+pub use gate::{Gate, Level, TOFFOLI_T_COUNT};
 pub use list::{GateList, invert};
 pub use out::{GateOut, Stopped};

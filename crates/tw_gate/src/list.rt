@@ -1,30 +1,63 @@
 //! Lists of gates, kept in two vectors: the entries in order, and one pool with the controls of all of them.
-ghost use Rattle.std.specs.Prelude.{◌≡◌, ◌<◌, ◌≤◌, [], ◌∷◌, ◌++◌, length, map, reverse, slice_get, Some, is_ok, if◌then◌else◌, IfOk, OnOk, OnErr};
-ghost use Rattle.tw_gate.specs.Gates.{plain, controls_of, inverse};
-ghost use Rattle.tw_gate.specs.Entries.{gate_of, LiesWithin, inverse_entry};
+ghost use Rattle.std.specs.Prelude.{◌≡◌, ◌<◌, ◌≤◌, Bool, List, [], ◌∷◌, ◌++◌, length, map, reverse, slice_get, Some, is_ok, if◌then◌else◌, IfOk, OnOk, OnErr};
+ghost use Rattle.std.specs.List.{AllByRecursion};
+ghost use Rattle.tw_gate.specs.Gates.{plain, controls_of, act, inverse, SparesControls};
+ghost use Rattle.tw_gate.specs.Entries.{gate_of, LiesWithin, inverse_kind, inverse_entry};
 
 use crate::gate::Gate;
 use std::alloc::{AllocError, Global};
 use std::marker::Model;
 
-/// A gate of a list. The controls of an X gate stand in the pool from the place `from` on, and end before the place `to`.
 #[derive(Debug, Clone, Copy)]
-enum Entry {
-    X { target: u32, from: usize, to: usize },
-    H(u32),
-    T(u32),
-    Tdg(u32),
+enum Kind {
+    X,
+    H,
+    T,
+    Tdg,
+}
+
+impl Kind {
+    /// The kind of the inverse gate.
+    fn inverse(self) -> Kind
+        ensures { result ≡ inverse_kind self }
+    {
+        match self {
+            Kind::T => Kind::Tdg,
+            Kind::Tdg => Kind::T,
+            Kind::X | Kind::H => self,
+        }
+    }
+}
+
+/// A gate of a list, in 12 bytes: its kind, its target or wire, and where its controls lie in the pool.
+#[derive(Debug, Clone, Copy)]
+struct Entry {
+    kind: Kind,
+    controls: u16,
+    wire: u32,
+    from: u32,
 }
 
 impl Entry {
+    /// The entry of a gate with no controls.
+    fn without_controls(kind: Kind, wire: u32) -> Entry
+        ensures { result ≡ record { kind = kind; controls = 0; wire = wire; from = 0 } }
+    {
+        Entry {
+            kind,
+            controls: 0,
+            wire,
+            from: 0,
+        }
+    }
+
     /// The entry of the inverse gate, which has the same controls.
     fn inverse(self) -> Entry
         ensures { result ≡ inverse_entry self }
     {
-        match self {
-            Entry::T(wire) => Entry::Tdg(wire),
-            Entry::Tdg(wire) => Entry::T(wire),
-            Entry::X { .. } | Entry::H(_) => self,
+        Entry {
+            kind: self.kind.inverse(),
+            ..self
         }
     }
 }
@@ -60,7 +93,8 @@ impl GateList {
         }
     }
 
-    /// Appends a gate, of any number of controls in any order; where memory is wanting, the list stays as it was.
+    /// Appends a gate, of any number of controls in any order. An error: out of memory, or more controls than a list holds (65,535 of
+    /// one gate, `2^32` of all); the list stays as it was.
     pub fn push(&mut self, gate: &Gate) -> Result<(), AllocError>
         ensures appended { OnOk result (self.new ≡ self.old ++ plain gate.now ∷ []) }
         ensures unchanged { OnErr result (self.new ≡ self.old) }
@@ -82,21 +116,23 @@ impl GateList {
         requires { place < length self.now }
         ensures { slice_get self.now place ≡ Some (plain result) }
     {
-        match self.entries[place] {
-            Entry::X { target, from, to } => Gate::X {
-                controls: &self.pool[from..to],
-                target,
+        let entry = self.entries[place];
+        let from = entry.from as usize;
+        match entry.kind {
+            Kind::X => Gate::X {
+                controls: &self.pool[from..from + entry.controls as usize],
+                target: entry.wire,
             },
-            Entry::H(wire) => Gate::H(wire),
-            Entry::T(wire) => Gate::T(wire),
-            Entry::Tdg(wire) => Gate::Tdg(wire),
+            Kind::H => Gate::H(entry.wire),
+            Kind::T => Gate::T(entry.wire),
+            Kind::Tdg => Gate::Tdg(entry.wire),
         }
     }
 }
 
-/// Copies the controls of a gate behind those of the pool, and gives the entry that names them there.
+/// Appends the controls of a gate to the pool, and gives the entry that names them there.
 ///
-/// Where memory is wanting, the pool stays as it was.
+/// An error: out of memory, or more controls than an entry names; the pool stays as it was.
 fn pool_controls(pool: &mut Vec<u32>, gate: &Gate) -> Result<Entry, AllocError>
     ensures grown { pool.new.items ≡ (if is_ok result then pool.old.items ++ controls_of (plain gate.now) else pool.old.items) }
     ensures within { IfOk result (LiesWithin (length pool.new.items)) }
@@ -104,20 +140,31 @@ fn pool_controls(pool: &mut Vec<u32>, gate: &Gate) -> Result<Entry, AllocError>
 {
     match *gate {
         Gate::X { controls, target } => {
-            let from = pool.len();
+            let (Ok(from), Ok(count)) = (u32::try_from(pool.len()), u16::try_from(controls.len()))
+            else {
+                return Err(AllocError);
+            };
             pool.extend_from_slice(controls)?;
-            let to = pool.len();
-            Ok(Entry::X { target, from, to })
+            Ok(Entry {
+                kind: Kind::X,
+                controls: count,
+                wire: target,
+                from,
+            })
         }
-        Gate::H(wire) => Ok(Entry::H(wire)),
-        Gate::T(wire) => Ok(Entry::T(wire)),
-        Gate::Tdg(wire) => Ok(Entry::Tdg(wire)),
+        Gate::H(wire) => Ok(Entry::without_controls(Kind::H, wire)),
+        Gate::T(wire) => Ok(Entry::without_controls(Kind::T, wire)),
+        Gate::Tdg(wire) => Ok(Entry::without_controls(Kind::Tdg, wire)),
     }
 }
 
 /// Turns a list into its inverse: the gates in reverse order, with T and its inverse exchanged. It takes no memory.
+///
+/// If no target is among the controls of its gate, the list and its inverse undo each other on all bits.
 pub fn invert(list: &mut GateList)
-    ensures { list.new ≡ inverse list.old }
+    ensures inverted { list.new ≡ inverse list.old }
+    ensures undone { AllByRecursion SparesControls list.old → (bits : List Bool) → act list.new (act list.old bits) ≡ bits }
+    ensures undoes { AllByRecursion SparesControls list.old → (bits : List Bool) → act list.old (act list.new bits) ≡ bits }
 {
     invert_entries(&mut list.entries);
 }

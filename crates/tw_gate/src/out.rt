@@ -6,16 +6,15 @@ ghost use Rattle.tw_gate.specs.Taking.{Gave};
 use crate::gate::Gate;
 use thiserror::Error;
 
-/// A taker stopped: it took a part of the gates that it was given, and its count of faults rose.
+/// A taker stopped: it took a part of the gates that it was given, and its fault counter rose.
 #[derive(Clone, Copy, Debug, Error)]
-#[error("the gates were not all taken")]
+#[error("not all gates were taken")]
 pub struct Stopped;
 
 /// What takes gates in order, as a list in memory or a sink that takes their lines.
 ///
-/// Between a state before, a state after and a list of gates, `took` says that the whole list was taken, and `broke` that a
-/// part of it was taken before a stop. `fits` says which gates fit a state. `faults` counts the stops, and stays at the
-/// greatest `u64` once there.
+/// `took` relates a state before, a state after and a list of gates that was taken whole; `broke` one that was taken in part
+/// before a stop. `fits` says which gates fit a state. `faults` counts the stops, and stays at the greatest `u64` once there.
 pub trait GateOut {
     ghost took: { Self → Self → List PlainGate → Type 0 };
 
@@ -27,7 +26,7 @@ pub trait GateOut {
 
     /// Takes a gate that fits.
     ///
-    /// Ok where it took the gate. Where it stopped, it broke in the gate, and its count of faults rose.
+    /// On Ok it took the gate. If it stopped, it broke in the gate, and its fault counter rose.
     fn put(&mut self, gate: &Gate) -> Result<(), Stopped>
         requires { fits self.old (plain gate.now) }
         ensures gave { Gave took broke faults self.old self.new result (plain gate.now ∷ []) };

@@ -7,7 +7,7 @@ use crate::{Gate, GateList, GateOut, Stopped, apply_list, invert};
 use std::alloc::{AllocError, Global};
 use tw_bits::Bits;
 
-/// Keeps the gates that it takes in a list, and stops where memory is wanting.
+/// Keeps the gates that it takes in a list, and stops when memory runs out.
 #[derive(Drop)]
 struct Keeper {
     list: GateList,
@@ -175,5 +175,12 @@ fn gates_act_on_bits(rt: HostRuntime) -> Result<(), AllocError> {
             );
         }
     }
+    Ok(())
+}
+
+#[test]
+fn errors_have_texts(rt: HostRuntime) -> Result<(), AllocError> {
+    let text = format!(in rt.alloc(); "{Stopped}")?;
+    assert_eq!(rt; text.as_str(), "not all gates were taken");
     Ok(())
 }

@@ -2,6 +2,7 @@
 use Rattle.std.proofs.Common.{◌≡◌, ◌∙◌, ap, sym, ℕ, ◌<◌, ◌≤◌, ◌^◌, List, [], ◌∷◌, ◌++◌, length, None, refl, arith}
 use Rattle.std.proofs.lemmas.Bool.Decides.{nat_tests}
 use Rattle.std.proofs.lemmas.List.{length_push}
+use Rattle.tw_gatetext.specs.declared.gate_words.TheConstants.{MOST_NUMBERS}
 use Rattle.tw_gate.specs.Gates.{PlainGate, X, H, T, Tdg}
 use Rattle.tw_gate.specs.declared.gate.Level.{Level}
 use Rattle.tw_gatetext.specs.Text.{line, last_line, HasFewControls}
@@ -25,7 +26,7 @@ letters-no_space (T wire) = (omega arith, tt)
 letters-no_space (Tdg wire) = (omega arith, (omega arith, (omega arith, tt)))
 
 -- how many numbers the line of a gate has
-count : (gate : PlainGate) → HasFewControls gate → (1 ≤ length (numbers_of gate)) × (length (numbers_of gate) ≤ 66)
+count : (gate : PlainGate) → HasFewControls gate → (1 ≤ length (numbers_of gate)) × (length (numbers_of gate) ≤ MOST_NUMBERS)
 count (X [] target) few = (omega arith, omega arith)
 count (X (a ∷ []) target) few = (omega arith, omega arith)
 count (X (a ∷ b ∷ []) target) few = (omega arith, omega arith)

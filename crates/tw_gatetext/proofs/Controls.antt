@@ -1,8 +1,7 @@
 -- Controls that ascend, seen from the front.
 use Rattle.std.proofs.Common.{◌≡◌, sym, ◌↔◌, ℕ, ◌+◌, ◌<◌, ◌≤◌, List, [], ◌∷◌, arith}
 use Rattle.std.specs.List.{AllByRecursion}
-use Rattle.tw_gate.specs.Gates.{IsNone}
-use Rattle.tw_gatetext.specs.Valid.{Ascends}
+use Rattle.tw_gate.specs.Gates.{Ascends, IsNotAmong}
 
 -- the first of these is no less
 abbrev pub StartsAt : ℕ → List ℕ → Type 0
@@ -13,7 +12,7 @@ StartsAt least (a ∷ rest) = least ≤ a
 pub record MayFollow (wires target least : ℕ) (controls : List ℕ) : Type 0 where
   pub starts : StartsAt least controls
   pub ascend : Ascends controls
-  pub spare : IsNone target controls
+  pub spare : IsNotAmong target controls
   pub below : AllByRecursion (λ c. c < wires) controls
 
 follow_cons : (wires target least control : ℕ) (rest : List ℕ) → least ≤ control → control < wires → ¬ (control ≡ target)

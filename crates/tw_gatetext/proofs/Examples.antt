@@ -18,15 +18,15 @@ IsValid-example = record {
   few_gates = omega arith;
   fit_level = (omega arith, (omega arith, (omega arith, (omega arith, (omega arith, tt)))));
   fit_wires = (
-    (tt, (apart 2 5 (omega arith), tt), (omega arith, tt), omega arith),
+    ((tt, (apart 2 5 (omega arith), tt)), ((omega arith, tt), omega arith)),
     (
-      (tt, (apart 3 6 (omega arith), tt), (omega arith, tt), omega arith),
+      ((tt, (apart 3 6 (omega arith), tt)), ((omega arith, tt), omega arith)),
       (
-        ((omega arith, tt), (above 4 5 (omega arith), (above 4 6 (omega arith), tt)), (omega arith, (omega arith, tt)), omega arith),
+        (((omega arith, tt), (above 4 5 (omega arith), (above 4 6 (omega arith), tt))), ((omega arith, (omega arith, tt)), omega arith)),
         (
-          (tt, (apart 3 6 (omega arith), tt), (omega arith, tt), omega arith),
+          ((tt, (apart 3 6 (omega arith), tt)), ((omega arith, tt), omega arith)),
           (
-            (tt, (apart 2 5 (omega arith), tt), (omega arith, tt), omega arith),
+            ((tt, (apart 2 5 (omega arith), tt)), ((omega arith, tt), omega arith)),
             tt,
           ),
         ),

@@ -1,19 +1,20 @@
 -- Right lines of the header, and lines that are none.
-use Rattle.std.proofs.Common.{◌≡◌, ◌∙◌, sym, subst, ℕ, ◌<◌, ◌≤◌, ◌^◌, List, [], ◌++◌, codes, decimal, Option, Some, None, Bor, IfSome, refl, arith}
+use Rattle.std.proofs.Common.{◌≡◌, ◌∙◌, ap, sym, subst, ℕ, ◌+◌, ◌<◌, ◌≤◌, ◌^◌, List, [], ◌++◌, codes, decimal, Option, Some, None, Bor, IfSome, refl, arith}
 use Rattle.std.specs.Option.{option_copied, IfNone}
 use Rattle.std.proofs.lemmas.List.{append_cancel_left}
 use Rattle.std.proofs.lemmas.Option.{none-some, same_Some}
 use Rattle.tw_text.specs.Front.{after}
 use Rattle.tw_text.proofs.Fronts.{append-after}
+use Rattle.tw_text.specs.declared.limits.TheConstants.{WIRES_LIMIT, LINES_LIMIT}
 use Rattle.tw_gate.specs.declared.gate.Level.{Level}
 use Rattle.tw_gate.specs.declared.gate.Level.TheVariants as levels
 use Rattle.tw_gatetext.specs.Text.{level_word}
 use Rattle.tw_gatetext.specs.Numerals.{IsNumeral}
 use Rattle.tw_gatetext.specs.Lines.{Progress, AtLevel, AtWires, AtGates, AtTCount, InBody, StepsTo, Reaches}
-use Rattle.tw_gatetext.specs.declared.line_fault.LineFault.{LineFault}
-use Rattle.tw_gatetext.specs.declared.line_fault.LineFault.TheVariants as line_fault
+use Rattle.tw_gatetext.specs.declared.file.GateFault.{GateFault}
+use Rattle.tw_gatetext.specs.declared.file.GateFault.TheVariants as fault
 use Rattle.tw_gatetext.specs.Refused.{Limit, limit_at, PassesLimit, GoesOn, IsWrong, IsRefusedText, WrongLine, PassedLimit}
-use Rattle.tw_gatetext.specs.Reading.{IsRefusedLine, IsTried, fault_behind}
+use Rattle.tw_gatetext.specs.Reading.{IsRefusedLine, IsTried}
 use Rattle.tw_gatetext.proofs.Delimited.{decimal_line-delimited}
 use Rattle.tw_gatetext.proofs.DigitRuns.{not_after}
 use Rattle.tw_gatetext.proofs.RightLines.{valued}
@@ -42,22 +43,24 @@ wrong_unlimited progress bytes on unlimited no_line =
     record { goes_on = on; no_line = no_line; no_limit = λ refusal passes. none-some passes.limit (sym unlimited ∙ passes.tried) }
 
 -- no right line stands there, and this limit is tried there
-pub refused_limited : (progress : Progress) (limit : Limit) (bytes : List ℕ) (why : LineFault) → GoesOn progress → limit_at progress ≡ Some limit → ((next : Progress) (rest : List ℕ) → ¬ StepsTo progress bytes next rest)
-    → IsTried limit bytes why → IsRefusedLine progress bytes why
-refused_limited progress limit bytes line_fault.Wrong on limited no_line tried =
-    record {
-      goes_on = on;
-      no_line = no_line;
-      no_limit = λ refusal passes. tried refusal (subst (λ (l : Limit). PassesLimit l bytes refusal) (same_Some passes.limit limit (sym passes.tried ∙ limited)) passes.passed);
-    }
-refused_limited progress limit bytes (line_fault.Over refusal) on limited no_line tried = record { limit = limit; tried = limited; passed = tried }
-refused_limited progress limit bytes line_fault.Memory on limited no_line tried = tried
+pub refused_limited : (progress : Progress) (limit : Limit) (bytes : List ℕ) (line : ℕ) (why : GateFault) → GoesOn progress → limit_at progress ≡ Some limit → ((next : Progress) (rest : List ℕ) → ¬ StepsTo progress bytes next rest)
+    → IsTried limit bytes line why → IsRefusedLine progress bytes line why
+refused_limited progress limit bytes line (fault.BadGateText at) on limited no_line tried = (
+  tried.0,
+  record {
+    goes_on = on;
+    no_line = no_line;
+    no_limit = λ refusal passes. tried.1 refusal (subst (λ (l : Limit). PassesLimit l bytes refusal) (same_Some passes.limit limit (sym passes.tried ∙ limited)) passes.exceeded);
+  },
+)
+refused_limited progress limit bytes line (fault.Over refusal) on limited no_line tried = record { limit = limit; tried = limited; exceeded = tried }
+refused_limited progress limit bytes line fault.Memory on limited no_line tried = tried
 
 -- a file is refused by its first line that is not right
-pub refused_behind : (bytes : List ℕ) (lines : ℕ) (progress : Progress) (rest : List ℕ) (why : LineFault) → Reaches bytes lines progress rest → IsRefusedLine progress rest why → IsRefusedText bytes (fault_behind lines why)
-refused_behind bytes lines progress rest line_fault.Wrong chain refused = WrongLine lines progress rest chain refused refl
-refused_behind bytes lines progress rest (line_fault.Over refusal) chain refused = PassedLimit lines progress rest refusal chain refused refl
-refused_behind bytes lines progress rest line_fault.Memory chain refused = absurd refused
+pub refused_after : (bytes : List ℕ) (lines : ℕ) (progress : Progress) (rest : List ℕ) (why : GateFault) → Reaches bytes lines progress rest → IsRefusedLine progress rest (lines + 1) why → IsRefusedText bytes why
+refused_after bytes lines progress rest (fault.BadGateText at) chain refused = WrongLine lines progress rest chain refused.1 (ap fault.BadGateText refused.0)
+refused_after bytes lines progress rest (fault.Over refusal) chain refused = PassedLimit lines progress rest refusal chain refused refl
+refused_after bytes lines progress rest fault.Memory chain refused = absurd refused
 
 -- the word of no level stands on the line alone
 pub no_level_word : (bytes : List ℕ) → None ≡ after (codes "mcx\n") bytes → None ≡ after (codes "tof\n") bytes → None ≡ after (codes "t\n") bytes → (level : Level) (rest : List ℕ) → ¬ (bytes ≡ level_word level ++ (codes "\n" ++ rest))
@@ -80,17 +83,17 @@ level_steps level bytes rest is = record { text = _; parts = valued_parts (codes
 pub no_level : (bytes : List ℕ) → ((level : Level) (rest : List ℕ) → ¬ (bytes ≡ codes "level " ++ (level_word level ++ (codes "\n" ++ rest)))) → IsWrong AtLevel bytes
 no_level bytes none = wrong_unlimited AtLevel bytes tt refl (λ next rest step. none step.right.0 rest (step.parts ∙ valued (codes "level ") (level_word step.right.0) step.text rest step.right.1))
 
-pub wires_steps : (level : Level) (wires : ℕ) (bytes rest : List ℕ) → 1 ≤ wires → wires ≤ 1048576 → bytes ≡ codes "wires " ++ (decimal wires ++ (codes "\n" ++ rest)) → StepsTo (AtWires level) bytes (AtGates level wires) rest
+pub wires_steps : (level : Level) (wires : ℕ) (bytes rest : List ℕ) → 1 ≤ wires → wires ≤ WIRES_LIMIT → bytes ≡ codes "wires " ++ (decimal wires ++ (codes "\n" ++ rest)) → StepsTo (AtWires level) bytes (AtGates level wires) rest
 wires_steps level wires bytes rest some few is = record { text = _; parts = valued_parts (codes "wires ") (decimal wires) bytes rest is; right = (wires, some, few, refl, refl) }
 
-pub no_wires : (level : Level) (bytes : List ℕ) → ((n : ℕ) (rest : List ℕ) → 1 ≤ n → n ≤ 1048576 → ¬ (bytes ≡ codes "wires " ++ (decimal n ++ (codes "\n" ++ rest)))) → (next : Progress) (rest : List ℕ) → ¬ StepsTo (AtWires level) bytes next rest
+pub no_wires : (level : Level) (bytes : List ℕ) → ((n : ℕ) (rest : List ℕ) → 1 ≤ n → n ≤ WIRES_LIMIT → ¬ (bytes ≡ codes "wires " ++ (decimal n ++ (codes "\n" ++ rest)))) → (next : Progress) (rest : List ℕ) → ¬ StepsTo (AtWires level) bytes next rest
 no_wires level bytes none next rest step =
     none step.right.0 rest step.right.1 step.right.2 (step.parts ∙ valued (codes "wires ") (decimal step.right.0) step.text rest step.right.3)
 
-pub gates_steps : (level : Level) (wires gates : ℕ) (bytes rest : List ℕ) → gates ≤ 4194304 → bytes ≡ codes "gates " ++ (decimal gates ++ (codes "\n" ++ rest)) → StepsTo (AtGates level wires) bytes (AtTCount level wires gates) rest
+pub gates_steps : (level : Level) (wires gates : ℕ) (bytes rest : List ℕ) → gates ≤ LINES_LIMIT → bytes ≡ codes "gates " ++ (decimal gates ++ (codes "\n" ++ rest)) → StepsTo (AtGates level wires) bytes (AtTCount level wires gates) rest
 gates_steps level wires gates bytes rest few is = record { text = _; parts = valued_parts (codes "gates ") (decimal gates) bytes rest is; right = (gates, few, refl, refl) }
 
-pub no_gates : (level : Level) (wires : ℕ) (bytes : List ℕ) → ((n : ℕ) (rest : List ℕ) → 0 ≤ n → n ≤ 4194304 → ¬ (bytes ≡ codes "gates " ++ (decimal n ++ (codes "\n" ++ rest)))) → (next : Progress) (rest : List ℕ) → ¬ StepsTo (AtGates level wires) bytes next rest
+pub no_gates : (level : Level) (wires : ℕ) (bytes : List ℕ) → ((n : ℕ) (rest : List ℕ) → 0 ≤ n → n ≤ LINES_LIMIT → ¬ (bytes ≡ codes "gates " ++ (decimal n ++ (codes "\n" ++ rest)))) → (next : Progress) (rest : List ℕ) → ¬ StepsTo (AtGates level wires) bytes next rest
 no_gates level wires bytes none next rest step =
     none step.right.0 rest (omega arith) step.right.1 (step.parts ∙ valued (codes "gates ") (decimal step.right.0) step.text rest step.right.2)
 

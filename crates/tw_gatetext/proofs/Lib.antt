@@ -15,6 +15,7 @@ pub mod Refusals
 pub mod RightLines
 pub mod SpacedNumbers
 pub mod TakenGates
+pub mod ValidFiles
 pub mod WholeFiles
 pub mod WithinLimits
 pub mod WordsOfLines

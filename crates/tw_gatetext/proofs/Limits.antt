@@ -1,6 +1,7 @@
 -- When a number behind a word passes its limit.
 use Rattle.std.proofs.Common.{◌≡◌, ◌∙◌, ap, sym, ℕ, ◌≤◌, List, Some, None, arith}
 use Rattle.std.proofs.lemmas.Fmt.{decimal_injective}
+use Rattle.tw_text.specs.Limits.{limit_of}
 use Rattle.tw_text.specs.Front.{after}
 use Rattle.tw_text.specs.declared.refusal.Refusal.{Refusal}
 use Rattle.tw_text.proofs.Fronts.{after-append}
@@ -28,6 +29,6 @@ no_word limit bytes none refusal passes = not_after limit.word bytes passes.behi
 pub no_number : (limit : Limit) (bytes behind : List ℕ) → Some behind ≡ after limit.word bytes → ((n : ℕ) → Shows behind n → ⊥) → (refusal : Refusal) → PassesLimit limit bytes refusal → ⊥
 no_number limit bytes behind found none refusal passes = none passes.found (shown_behind limit bytes behind refusal found passes)
 
-pub within_limit : (limit : Limit) (bytes behind : List ℕ) (number : ℕ) → Some behind ≡ after limit.word bytes → Shows behind number → number ≤ limit.most → (refusal : Refusal) → PassesLimit limit bytes refusal → ⊥
+pub within_limit : (limit : Limit) (bytes behind : List ℕ) (number : ℕ) → Some behind ≡ after limit.word bytes → Shows behind number → number ≤ limit_of limit.what → (refusal : Refusal) → PassesLimit limit bytes refusal → ⊥
 within_limit limit bytes behind number found shows within refusal passes =
     absurd (omega (arith, passes.above, shows_one behind passes.found number (shown_behind limit bytes behind refusal found passes) shows))

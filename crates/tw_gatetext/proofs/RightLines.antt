@@ -3,6 +3,7 @@ use Rattle.std.proofs.Common.{◌≡◌, ◌∙◌, ap, sym, ℕ, ◌≤◌, Lis
 use Rattle.std.specs.List.{AllByRecursion}
 use Rattle.std.proofs.lemmas.List.{append_cancel_left, length_push}
 use Rattle.tw_text.specs.Digits.{digit_run}
+use Rattle.tw_text.specs.declared.limits.TheConstants.{WIRES_LIMIT, LINES_LIMIT}
 use Rattle.tw_gate.specs.Gates.{PlainGate}
 use Rattle.tw_gatetext.specs.Text.{level_word, last_line}
 use Rattle.tw_gatetext.specs.Valid.{FitsLevel, FitsWires}
@@ -16,8 +17,8 @@ use Rattle.tw_gatetext.proofs.Bounds.{small_numbers}
 -- the numbers of a header are within their limits
 pub record IsSoundHead (head : Head) : Type 0 where
   pub some_wires : 1 ≤ head.wires
-  pub few_wires : head.wires ≤ 1048576
-  pub few_gates : head.gates ≤ 4194304
+  pub few_wires : head.wires ≤ WIRES_LIMIT
+  pub few_gates : head.gates ≤ LINES_LIMIT
 
 -- the gates fit the header
 pub record FitHead (head : Head) (gates : List PlainGate) : Type 0 where
@@ -27,8 +28,8 @@ pub record FitHead (head : Head) (gates : List PlainGate) : Type 0 where
 
 -- what the lines so far have told is within its limits
 abbrev pub IsSound : Progress → Type 0
-IsSound (AtGates level wires) = (1 ≤ wires) × (wires ≤ 1048576)
-IsSound (AtTCount level wires gates) = (1 ≤ wires) × (wires ≤ 1048576) × (gates ≤ 4194304)
+IsSound (AtGates level wires) = (1 ≤ wires) × (wires ≤ WIRES_LIMIT)
+IsSound (AtTCount level wires gates) = (1 ≤ wires) × (wires ≤ WIRES_LIMIT) × (gates ≤ LINES_LIMIT)
 IsSound (InBody head gates) = FitHead head gates × (length gates ≤ head.gates)
 IsSound (Whole head gates) = FitHead head gates × (length gates ≡ head.gates)
 IsSound progress = Unit {0}
@@ -48,7 +49,7 @@ values : (word a b text text' rest rest' : List ℕ) → text ≡ word ++ (a ++ 
 values word a b text text' rest rest' is is' e =
     append_cancel_left word _ _ (sym (valued word a text rest is) ∙ e ∙ valued word b text' rest' is')
 
-body-delimited : (head : Head) (gates : List PlainGate) (text text' rest rest' : List ℕ) (next next' : Progress) → head.wires ≤ 1048576
+body-delimited : (head : Head) (gates : List PlainGate) (text text' rest rest' : List ℕ) (next next' : Progress) → head.wires ≤ WIRES_LIMIT
     → IsBodyLine head gates text next → IsBodyLine head gates text' next' → text ++ rest ≡ text' ++ rest' → (next ≡ next') × (rest ≡ rest')
 body-delimited head gates text text' rest rest' next next' few (OfGate gate more level wires is comes) (OfGate gate' more' level' wires' is' comes') e =
     let both = line-delimited gate gate' rest rest' (small_numbers head.level head.wires gate few level wires) (small_numbers head.level head.wires gate' few level' wires')

@@ -1,5 +1,5 @@
 -- Gate lines that were taken one after the other.
-use Rattle.std.proofs.Common.{◌≡◌, ap, subst, ℕ, ◌+◌, ◌*◌, ◌≤◌, List, [], ◌∷◌, ◌++◌, length, ◌⊎◌, inl, inr, refl, arith, add_assoc}
+use Rattle.std.proofs.Common.{◌≡◌, subst, ℕ, ◌+◌, ◌*◌, ◌≤◌, List, [], ◌∷◌, ◌++◌, length, ◌⊎◌, inl, inr, refl, arith, add_assoc}
 use Rattle.std.proofs.lemmas.List.{length_push}
 use Rattle.tw_gate.specs.Gates.{PlainGate}
 use Rattle.tw_gate.specs.Weight.{gate_weight, t_count}
@@ -7,12 +7,11 @@ use Rattle.tw_gate.proofs.Inverse.{t_count-append}
 use Rattle.tw_gatetext.specs.Text.{HasFewControls}
 use Rattle.tw_gatetext.specs.Lines.{Head, InBody, StepsTo, Reaches, Line}
 use Rattle.tw_gatetext.specs.Refused.{IsRefusedText}
-use Rattle.tw_gatetext.specs.Reading.{IsRefusedLine, fault_behind}
+use Rattle.tw_gatetext.specs.Reading.{IsRefusedLine}
+use Rattle.tw_gatetext.specs.declared.file.GateFault.{GateFault}
 use Rattle.tw_gatetext.specs.declared.file.GateFault.TheVariants as fault
-use Rattle.tw_gatetext.specs.declared.line_fault.LineFault.{LineFault}
-use Rattle.tw_gatetext.specs.declared.line_fault.LineFault.TheVariants as line_fault
 use Rattle.tw_gatetext.proofs.Bounds.{gate_weight-le}
-use Rattle.tw_gatetext.proofs.HeaderLines.{refused_behind}
+use Rattle.tw_gatetext.proofs.HeaderLines.{refused_after}
 
 -- so many gate lines behind a header were taken: these gates, of this T-count, and this rest is left of the bytes
 pub record HasTaken (head : Head) (bytes : List ℕ) (lines : ℕ) (gates : List PlainGate) (count : ℕ) (rest : List ℕ) : Type 0 where
@@ -46,9 +45,9 @@ pub taken-small : (head : Head) (bytes : List ℕ) (lines : ℕ) (gates : List P
     → ((gate : PlainGate) × (after ≡ gates ++ gate ∷ []) × (weight ≡ gate_weight gate) × HasFewControls gate) → count + weight ≤ 875 * (lines + 1)
 taken-small head bytes lines gates count rest after weight so taken = omega (arith, gate_weight-le taken.0 taken.3, so.small, taken.2)
 
--- the next line was not taken: for want of memory, or it is refused
-pub taken-refused : (head : Head) (bytes : List ℕ) (lines : ℕ) (gates : List PlainGate) (count : ℕ) (rest : List ℕ) (why : LineFault) → HasTaken head bytes lines gates count rest
-    → (why ≡ line_fault.Memory) ⊎ IsRefusedLine (InBody head gates) rest why → (all : List ℕ) → Reaches all 5 (InBody head []) bytes
-    → (fault_behind (5 + lines) why ≡ fault.Memory) ⊎ IsRefusedText all (fault_behind (5 + lines) why)
-taken-refused head bytes lines gates count rest why so (inl memory) all chain = inl (ap (fault_behind (5 + lines)) memory)
-taken-refused head bytes lines gates count rest why so (inr refused) all chain = inr (refused_behind all (5 + lines) (InBody head gates) rest why (so.chain all chain) refused)
+-- the next line was not taken: out of memory, or it is refused
+pub taken-refused : (head : Head) (bytes : List ℕ) (lines : ℕ) (gates : List PlainGate) (count : ℕ) (rest : List ℕ) (why : GateFault) → HasTaken head bytes lines gates count rest
+    → (why ≡ fault.Memory) ⊎ IsRefusedLine (InBody head gates) rest (6 + lines) why → (all : List ℕ) → Reaches all 5 (InBody head []) bytes → (why ≡ fault.Memory) ⊎ IsRefusedText all why
+taken-refused head bytes lines gates count rest why so (inl memory) all chain = inl memory
+taken-refused head bytes lines gates count rest why so (inr refused) all chain =
+    inr (refused_after all (5 + lines) (InBody head gates) rest why (so.chain all chain) (subst (λ (line : ℕ). IsRefusedLine (InBody head gates) rest line why) (omega arith) refused))

@@ -6,8 +6,8 @@ use Rattle.std.proofs.lemmas.Fmt.{decimal_injective}
 use Rattle.std.proofs.lemmas.List.{append_cancel_left}
 use Rattle.tw_text.specs.Places.{first_place}
 use Rattle.tw_text.specs.declared.refusal.Refusal.{Refusal}
-use Rattle.tw_text.specs.declared.refusal.Counted.TheVariants as counted
-use Rattle.tw_text.specs.declared.refusal.Rule.TheVariants as rule
+use Rattle.tw_text.specs.Limits.{limit_of}
+use Rattle.tw_text.specs.Refusals.{passed}
 use Rattle.tw_text.proofs.Decimals.{digit_run-decimal}
 use Rattle.tw_gate.specs.declared.gate.Level.{Level}
 use Rattle.tw_gate.specs.declared.gate.Level.TheVariants as levels
@@ -16,7 +16,7 @@ use Rattle.tw_gatetext.specs.Text.{spaced, line, last_line}
 use Rattle.tw_gatetext.specs.Valid.{FitsLevel}
 use Rattle.tw_gatetext.specs.Numerals.{Shows, Word, Larger}
 use Rattle.tw_gatetext.specs.Lines.{Head, Progress, AtVersion, AtLevel, AtWires, AtGates, AtTCount, InBody, Whole, IsBodyLine, OfGate, Last, IsRight, StepsTo}
-use Rattle.tw_gatetext.specs.Refused.{Limit, controls_limit, limit_at, PassesLimit, Passes}
+use Rattle.tw_gatetext.specs.Refused.{Limit, wires_limit, gates_limit, mcx_limit, controls_limit, limit_at, PassesLimit, Passes}
 use Rattle.tw_gatetext.proofs.Limits.{shows_one}
 use Rattle.tw_gatetext.proofs.OneToOne.{line-letters}
 use Rattle.tw_gatetext.proofs.RightLines.{valued}
@@ -30,28 +30,24 @@ one_passed : (limit : Limit) (bytes : List ℕ) (refusal other : Refusal) → Pa
 one_passed limit bytes refusal other p p' =
     let behind = append_cancel_left limit.word p.behind p'.behind (sym p.begins ∙ p'.begins) in
     let found = shows_one p'.behind p.found p'.found (subst (λ (b : List ℕ). Shows b p.found) behind p.shows) p'.shows in
-    let made : ℕ → Refusal = λ f. record { rule = rule.Limit limit.what; at = first_place; found = f; limit = limit.most } in
-    p.refused ∙ ap made found ∙ sym p'.refused
+    p.refused ∙ ap (λ (f : ℕ). passed limit.what f first_place) found ∙ sym p'.refused
 
 pub one_limit : (progress : Progress) (bytes : List ℕ) (refusal other : Refusal) → Passes progress bytes refusal → Passes progress bytes other → refusal ≡ other
 one_limit progress bytes refusal other p p' =
     let same = same_Some p.limit p'.limit (sym p.tried ∙ p'.tried) in
-    one_passed p'.limit bytes refusal other (subst (λ (l : Limit). PassesLimit l bytes refusal) same p.passed) p'.passed
+    one_passed p'.limit bytes refusal other (subst (λ (l : Limit). PassesLimit l bytes refusal) same p.exceeded) p'.exceeded
 
 -- a number within its limit does not pass it
-within : (limit : Limit) (n : ℕ) (text rest : List ℕ) (refusal : Refusal) → n < 2 ^ 64 → n ≤ limit.most → text ≡ limit.word ++ (decimal n ++ codes "\n") → ¬ PassesLimit limit (text ++ rest) refusal
+within : (limit : Limit) (n : ℕ) (text rest : List ℕ) (refusal : Refusal) → n < 2 ^ 64 → n ≤ limit_of limit.what → text ≡ limit.word ++ (decimal n ++ codes "\n") → ¬ PassesLimit limit (text ++ rest) refusal
 within limit n text rest refusal small few is p =
     let behind = append_cancel_left limit.word p.behind (decimal n ++ (codes "\n" ++ rest)) (sym p.begins ∙ valued limit.word (decimal n) text rest is) in
     let found = shown-decimal n 10 rest p.found small refl (subst (λ (b : List ℕ). Shows b p.found) behind p.shows) in
     omega (arith, p.above)
 
-abbrev mcx : Limit
-mcx = record { word = codes "mcx "; what = counted.Controls; most = 64 }
-
 other_word : (b : ℕ) (xs behind : List ℕ) → b < 109 ⊎ 109 < b → b ∷ xs ≡ codes "mcx " ++ behind → ⊥
 other_word b xs behind other e = let same : b ≡ 109 = cc in omega (arith, other)
 
-no_mcx : (gate : PlainGate) (rest : List ℕ) (refusal : Refusal) → FitsLevel levels.Mcx gate → ¬ PassesLimit mcx (line gate ++ rest) refusal
+no_mcx : (gate : PlainGate) (rest : List ℕ) (refusal : Refusal) → FitsLevel levels.Mcx gate → ¬ PassesLimit mcx_limit (line gate ++ rest) refusal
 no_mcx (X [] target) rest refusal fits p = other_word 120 _ p.behind (inr (omega arith)) p.begins
 no_mcx (X (a ∷ []) target) rest refusal fits p = other_word 99 _ p.behind (inl (omega arith)) p.begins
 no_mcx (X (a ∷ b ∷ []) target) rest refusal fits p = other_word 99 _ p.behind (inl (omega arith)) p.begins
@@ -75,12 +71,12 @@ tried_controls true level limit tried = tried
 tried_controls false level limit tried = absurd (none-some limit tried)
 
 no_controls : (level : Level) (gate : PlainGate) (limit : Limit) (rest : List ℕ) (refusal : Refusal) → FitsLevel level gate → controls_limit level ≡ Some limit → ¬ PassesLimit limit (line gate ++ rest) refusal
-no_controls levels.Mcx gate limit rest refusal fits tried p = no_mcx gate rest refusal fits (same_limit limit mcx _ refusal tried p)
+no_controls levels.Mcx gate limit rest refusal fits tried p = no_mcx gate rest refusal fits (same_limit limit mcx_limit _ refusal tried p)
 no_controls levels.Tof gate limit rest refusal fits tried p = none-some limit tried
 no_controls levels.T gate limit rest refusal fits tried p = none-some limit tried
 
 not_last : (level : Level) (limit : Limit) (rest : List ℕ) (refusal : Refusal) → controls_limit level ≡ Some limit → ¬ PassesLimit limit (last_line ++ rest) refusal
-not_last levels.Mcx limit rest refusal tried p = other_word 101 _ _ (inl (omega arith)) (same_limit limit mcx _ refusal tried p).begins
+not_last levels.Mcx limit rest refusal tried p = other_word 101 _ _ (inl (omega arith)) (same_limit limit mcx_limit _ refusal tried p).begins
 not_last levels.Tof limit rest refusal tried p = none-some limit tried
 not_last levels.T limit rest refusal tried p = none-some limit tried
 
@@ -95,13 +91,13 @@ right_within : (progress : Progress) (text rest : List ℕ) (next : Progress) (l
 right_within AtVersion text rest next limit refusal right tried p = none-some limit tried
 right_within AtLevel text rest next limit refusal right tried p = none-some limit tried
 right_within (AtWires level) text rest next limit refusal right tried p =
-    within _ right.0 text rest refusal (omega (arith, right.2)) right.2 right.3 (same_limit limit (record { word = codes "wires "; what = counted.Wires; most = 1048576 }) _ refusal tried p)
+    within _ right.0 text rest refusal (omega (arith, right.2)) right.2 right.3 (same_limit limit wires_limit _ refusal tried p)
 right_within (AtGates level wires) text rest next limit refusal right tried p =
-    within _ right.0 text rest refusal (omega (arith, right.1)) right.1 right.2 (same_limit limit (record { word = codes "gates "; what = counted.Lines; most = 4194304 }) _ refusal tried p)
+    within _ right.0 text rest refusal (omega (arith, right.1)) right.1 right.2 (same_limit limit gates_limit _ refusal tried p)
 right_within (AtTCount level wires gates) text rest next limit refusal right tried p = none-some limit tried
 right_within (InBody head gates) text rest next limit refusal right tried p = body_within head gates _ text rest next limit refusal right tried p
 right_within (Whole head gates) text rest next limit refusal right tried p = right
 
 pub no_limit : (progress : Progress) (bytes : List ℕ) (next : Progress) (rest : List ℕ) (refusal : Refusal) → StepsTo progress bytes next rest → ¬ Passes progress bytes refusal
 no_limit progress bytes next rest refusal step p =
-    right_within progress step.text rest next p.limit refusal step.right p.tried (subst (λ (b : List ℕ). PassesLimit p.limit b refusal) step.parts p.passed)
+    right_within progress step.text rest next p.limit refusal step.right p.tried (subst (λ (b : List ℕ). PassesLimit p.limit b refusal) step.parts p.exceeded)

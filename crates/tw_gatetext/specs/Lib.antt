@@ -1,4 +1,3 @@
-pub mod FileLimits
 pub mod Files
 pub mod LineWords
 pub mod Lines

@@ -5,7 +5,7 @@ use Rattle.std.specs.Fmt.{digits}
 use Rattle.tw_gate.specs.declared.gate.Level.{Level}
 use Rattle.tw_gate.specs.declared.gate.Level.TheVariants as levels
 use Rattle.tw_gate.specs.Gates.{PlainGate, X}
-use Rattle.tw_gatetext.specs.FileLimits.{most_wires, most_gates}
+use Rattle.tw_text.specs.declared.limits.TheConstants.{WIRES_LIMIT, LINES_LIMIT}
 use Rattle.tw_gatetext.specs.Text.{level_word, line, last_line}
 use Rattle.tw_gatetext.specs.Valid.{FitsLevel, FitsWires}
 use Rattle.tw_gatetext.specs.Numerals.{IsNumeral}
@@ -39,9 +39,9 @@ abbrev pub IsRight : Progress → List ℕ → Progress → Type 0
 IsRight AtVersion text next = (text ≡ codes "tower-gates 1\n") × (next ≡ AtLevel)
 IsRight AtLevel text next = (level : Level) × (text ≡ codes "level " ++ (level_word level ++ codes "\n")) × (next ≡ AtWires level)
 IsRight (AtWires level) text next =
-    (wires : ℕ) × (1 ≤ wires) × (wires ≤ most_wires) × (text ≡ codes "wires " ++ (decimal wires ++ codes "\n")) × (next ≡ AtGates level wires)
+    (wires : ℕ) × (1 ≤ wires) × (wires ≤ WIRES_LIMIT) × (text ≡ codes "wires " ++ (decimal wires ++ codes "\n")) × (next ≡ AtGates level wires)
 IsRight (AtGates level wires) text next =
-    (gates : ℕ) × (gates ≤ most_gates) × (text ≡ codes "gates " ++ (decimal gates ++ codes "\n")) × (next ≡ AtTCount level wires gates)
+    (gates : ℕ) × (gates ≤ LINES_LIMIT) × (text ≡ codes "gates " ++ (decimal gates ++ codes "\n")) × (next ≡ AtTCount level wires gates)
 IsRight (AtTCount level wires gates) text next =
     (t_count : List ℕ) × IsNumeral t_count × (text ≡ codes "t-count " ++ (t_count ++ codes "\n"))
     × (next ≡ InBody (record { level = level; wires = wires; gates = gates; t_count = t_count }) [])
@@ -71,7 +71,7 @@ IsRight-wires = (7, omega arith, omega arith, refl, refl)
 
 pub IsRight-gate : IsRight (InBody example_head []) (codes "cx 2 5\n") (InBody example_head (X (2 ∷ []) 5 ∷ []))
 unfolding digits
-IsRight-gate = OfGate (X (2 ∷ []) 5) (omega arith) (omega arith) (tt, (λ same. cc, tt), (omega arith, tt), omega arith) refl refl
+IsRight-gate = OfGate (X (2 ∷ []) 5) (omega arith) (omega arith) ((tt, (λ same. cc, tt)), ((omega arith, tt), omega arith)) refl refl
 
 pub IsRight-last : IsRight (InBody example_head (X [] 5 ∷ [])) (codes "end\n") (Whole example_head (X [] 5 ∷ []))
 IsRight-last = Last refl refl refl

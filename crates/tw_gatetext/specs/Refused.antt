@@ -13,42 +13,51 @@ use Rattle.tw_text.specs.declared.refusal.Refusal.{Refusal}
 use Rattle.tw_text.specs.Places.{first_place}
 use Rattle.tw_gatetext.specs.declared.file.GateFault.{GateFault}
 use Rattle.tw_gatetext.specs.declared.file.GateFault.TheVariants as fault
-use Rattle.tw_gatetext.specs.FileLimits.{most_wires, most_gates, most_controls}
+use Rattle.tw_text.specs.Limits.{limit_of}
+use Rattle.tw_text.specs.Refusals.{passed}
 use Rattle.tw_gatetext.specs.Numerals.{Shows, Word}
 use Rattle.tw_gatetext.specs.Lines.{Progress, AtWires, AtGates, InBody, Whole, Head, StepsTo, Reaches}
 
--- a limit on a number: the word and the space that it stands behind, what it counts, and the most that it may be
+-- a limit on a number: the keyword and the space before it, and what it counts
 pub record Limit : Type 0 where
   pub word : List ℕ
   pub what : Counted
-  pub most : ℕ
+
+abbrev pub wires_limit : Limit
+wires_limit = record { word = codes "wires "; what = counted.Wires }
+
+abbrev pub gates_limit : Limit
+gates_limit = record { word = codes "gates "; what = counted.Lines }
+
+abbrev pub mcx_limit : Limit
+mcx_limit = record { word = codes "mcx "; what = counted.Controls }
 
 -- the limit on the controls of a gate is tried at the level of gates with any number of controls
 abbrev pub controls_limit : Level → Option Limit
-controls_limit levels.Mcx = Some (record { word = codes "mcx "; what = counted.Controls; most = most_controls })
+controls_limit levels.Mcx = Some mcx_limit
 controls_limit level = None
 
 -- the limit on the line that a file has next, where there is one
 abbrev pub limit_at : Progress → Option Limit
-limit_at (AtWires level) = Some (record { word = codes "wires "; what = counted.Wires; most = most_wires })
-limit_at (AtGates level wires) = Some (record { word = codes "gates "; what = counted.Lines; most = most_gates })
+limit_at (AtWires level) = Some wires_limit
+limit_at (AtGates level wires) = Some gates_limit
 limit_at (InBody head gates) = if nat_lt (length gates) head.gates then controls_limit head.level else None
 limit_at progress = None
 
--- the bytes pass a limit with the number behind its word, whatever stands behind the number
+-- the bytes pass a limit with the number after its keyword, whatever follows the number
 pub record PassesLimit (limit : Limit) (bytes : List ℕ) (refusal : Refusal) : Type 0 where
   pub behind : List ℕ
   pub begins : bytes ≡ limit.word ++ behind
   pub found : ℕ
   pub shows : Shows behind found
-  pub above : limit.most < found
-  pub refused : refusal ≡ record { rule = rule.Limit limit.what; at = first_place; found = found; limit = limit.most }
+  pub above : limit_of limit.what < found
+  pub refused : refusal ≡ passed limit.what found first_place
 
 -- the next line has a limit, and passes it
 pub record Passes (progress : Progress) (bytes : List ℕ) (refusal : Refusal) : Type 0 where
   pub limit : Limit
   pub tried : limit_at progress ≡ Some limit
-  pub passed : PassesLimit limit bytes refusal
+  pub exceeded : PassesLimit limit bytes refusal
 
 -- a file that has come so far has a further line
 abbrev pub GoesOn : Progress → Type 0
@@ -62,7 +71,7 @@ pub record IsWrong (progress : Progress) (bytes : List ℕ) : Type 0 where
   pub no_limit : (refusal : Refusal) → ¬ Passes progress bytes refusal
 
 -- Why bytes begin with no gate file: the first line that is not right is wrong or passes a limit; or all lines are right, and
--- the T-count, on line 5, is not that of the gates. Lines count from 1.
+-- the T-count, on line 5, is not that of the gates. Lines are counted from 1.
 pub data IsRefusedText (bytes : List ℕ) (why : GateFault) : Type 0 where
   WrongLine : (before : ℕ) (progress : Progress) (rest : List ℕ) → Reaches bytes before progress rest → IsWrong progress rest
       → why ≡ fault.BadGateText (before + 1) → IsRefusedText bytes why
@@ -71,11 +80,11 @@ pub data IsRefusedText (bytes : List ℕ) (why : GateFault) : Type 0 where
   WrongTCount : (lines : ℕ) (head : Head) (gates : List PlainGate) (rest : List ℕ) → Reaches bytes lines (Whole head gates) rest
       → head.t_count ≢ decimal (t_count gates) → why ≡ fault.BadGateText 5 → IsRefusedText bytes why
 
--- a number of wires past its limit, and more behind it
+-- a number of wires past its limit, and more after it
 pub Passes-wires : Passes (AtWires levels.Mcx) (codes "wires 1048577junk") (record { rule = rule.Limit counted.Wires; at = first_place; found = 1048577; limit = 1048576 })
 unfolding digits
 Passes-wires = record {
-  limit = record { word = codes "wires "; what = counted.Wires; most = 1048576 };
+  limit = wires_limit;
   tried = refl;
-  passed = record { behind = codes "1048577junk"; begins = refl; found = 1048577; shows = Word (omega arith) refl; above = omega arith; refused = refl };
+  exceeded = record { behind = codes "1048577junk"; begins = refl; found = 1048577; shows = Word (omega arith) refl; above = omega arith; refused = refl };
 }

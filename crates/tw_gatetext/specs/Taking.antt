@@ -4,13 +4,13 @@ use Rattle.std.specs.Fmt.{digits}
 use Rattle.std.specs.Borrow.{MutBor}
 use Rattle.tw_io.specs.Devices.{Appends, AppendsPrefix}
 use Rattle.tw_gate.specs.Gates.{PlainGate, H, HasWiresBelow}
-use Rattle.tw_gatetext.specs.FileLimits.{most_wires}
+use Rattle.tw_text.specs.declared.limits.TheConstants.{WIRES_LIMIT}
 use Rattle.tw_gatetext.specs.Text.{lines, HasFewControls}
 
--- a gate that a file may hold on some number of wires: at most 64 controls, and all wires below 1,048,576
+-- a gate that a file may hold on some number of wires: its controls and its wires are within their limits
 pub record FitsLine (gate : PlainGate) : Type 0 where
   pub few : HasFewControls gate
-  pub low : HasWiresBelow most_wires gate
+  pub low : HasWiresBelow WIRES_LIMIT gate
 
 -- the sink took the lines of these gates, and is the same that was lent
 pub record TookLines {K : Type 0} (taken : K → Option (List ℕ)) (old new : MutBor K) (gates : List PlainGate) : Type 0 where

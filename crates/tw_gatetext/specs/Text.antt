@@ -4,7 +4,7 @@ use Rattle.std.specs.Fmt.{digits}
 use Rattle.tw_gate.specs.declared.gate.Level.{Level}
 use Rattle.tw_gate.specs.declared.gate.Level.TheVariants as levels
 use Rattle.tw_gate.specs.Gates.{PlainGate, X, H, T, Tdg, example}
-use Rattle.tw_gatetext.specs.FileLimits.{most_controls}
+use Rattle.tw_text.specs.declared.limits.TheConstants.{CONTROLS_LIMIT}
 
 -- a gate file: which kinds it holds, on how many wires, its T-count, and its gates
 pub record File : Type 0 where
@@ -58,7 +58,7 @@ file_text file = header file.level file.wires (length file.gates) file.t_count +
 
 -- a gate has no more controls than a file may have
 abbrev pub HasFewControls : PlainGate → Type 0
-HasFewControls (X controls target) = length controls ≤ most_controls
+HasFewControls (X controls target) = length controls ≤ CONTROLS_LIMIT
 HasFewControls _ = Unit {0}
 
 pub spaced-two : spaced (5 ∷ 12 ∷ []) ≡ codes " 5 12"

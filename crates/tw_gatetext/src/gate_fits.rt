@@ -1,17 +1,18 @@
 //! Whether a gate fits the level and the wires of a file.
 ghost use Rattle.std.specs.Prelude.{◌≡◌, ◌↔◌, ◌<◌, true};
 ghost use Rattle.std.specs.List.{AllByRecursion};
-ghost use Rattle.tw_gate.specs.Gates.{plain, IsNone};
-ghost use Rattle.tw_gatetext.specs.Valid.{Ascends, FitsLevel, FitsWires};
+ghost use Rattle.tw_gate.specs.Gates.{plain, Ascends, IsNotAmong};
+ghost use Rattle.tw_gatetext.specs.Valid.{FitsLevel, FitsWires};
 
 use tw_gate::{Gate, Level};
+use tw_text::CONTROLS_LIMIT;
 
-/// Whether the level takes a gate of this kind with so many controls.
+/// Whether the level takes a gate of this kind with this many controls.
 pub fn fits_level(level: Level, gate: &Gate) -> bool
     ensures { (result ≡ true) ↔ FitsLevel level (plain gate.now) }
 {
     match (level, gate) {
-        (Level::Mcx, Gate::X { controls, .. }) => controls.len() <= 64,
+        (Level::Mcx, Gate::X { controls, .. }) => controls.len() as u64 <= CONTROLS_LIMIT,
         (Level::Tof, Gate::X { controls, .. }) => controls.len() <= 2,
         (Level::T, Gate::X { controls, .. }) => controls.len() <= 1,
         (Level::T, Gate::H(_) | Gate::T(_) | Gate::Tdg(_)) => true,
@@ -19,7 +20,7 @@ pub fn fits_level(level: Level, gate: &Gate) -> bool
     }
 }
 
-/// Whether the controls of a gate ascend without its target, and all its wires are below this number.
+/// Whether the gate is proper, and all its wires are below this number.
 pub fn fits_wires(wires: u32, gate: &Gate) -> bool
     ensures { (result ≡ true) ↔ FitsWires wires (plain gate.now) }
 {
@@ -29,9 +30,9 @@ pub fn fits_wires(wires: u32, gate: &Gate) -> bool
     }
 }
 
-/// Whether these ascend strictly, are below the number of wires, and do not hold the target.
+/// Whether these ascend strictly, are below the number of wires, and the target is not among them.
 fn controls_fit(wires: u32, controls: &[u32], target: u32) -> bool
-    ensures { (result ≡ true) ↔ (Ascends controls.now × IsNone target controls.now × AllByRecursion (λ c. c < wires) controls.now) }
+    ensures { (result ≡ true) ↔ (Ascends controls.now × IsNotAmong target controls.now × AllByRecursion (λ c. c < wires) controls.now) }
 {
     let mut least = 0;
     for control in controls {

@@ -1,8 +1,9 @@
-//! Gate lines as a word and numbers, and the gates that these tell.
+//! Gate lines as letters and numbers, and the gates that these spell.
 ghost use Rattle.std.specs.Prelude.{◌≡◌, ◌≢◌, ℕ, ◌<◌, ◌≤◌, ◌^◌, ◌++◌, [], ◌∷◌, List, length, codes, decimal, IfSome};
 ghost use Rattle.std.specs.Option.{IfNone};
 ghost use Rattle.std.specs.List.{AllByRecursion};
 ghost use Rattle.tw_gate.specs.Gates.{PlainGate, plain, X};
+ghost use Rattle.tw_gatetext.specs.declared.gate_words.TheConstants.{MOST_NUMBERS};
 ghost use Rattle.tw_gatetext.specs.Text.{spaced};
 ghost use Rattle.tw_gatetext.specs.LineWords.{letters, numbers_of};
 ghost use Rattle.tw_gatetext.specs.Reading.{HasNoSpace, AreLineNumbers, IsLineOf};
@@ -10,10 +11,13 @@ ghost use Rattle.tw_gatetext.specs.Reading.{HasNoSpace, AreLineNumbers, IsLineOf
 use crate::numbers::number_at;
 use arrayvec::ArrayVec;
 use tw_gate::Gate;
-use tw_text::after;
+use tw_text::{CONTROLS_LIMIT, after};
 
-/// The numbers of a line: at most a number of controls, 64 controls and a target.
-pub type Numbers = ArrayVec<u32, 66>;
+/// The most numbers of a line: a count of controls, the controls and a target.
+const MOST_NUMBERS: usize = CONTROLS_LIMIT as usize + 2;
+
+/// The numbers of a line.
+pub type Numbers = ArrayVec<u32, MOST_NUMBERS>;
 
 /// A gate line: its letters, its numbers, and what follows the line.
 #[derive(Drop)]
@@ -33,7 +37,7 @@ fn word_at(bytes: &[u8]) -> Option<(&[u8], &[u8])>
     Some((&bytes[..end], &bytes[end..]))
 }
 
-/// The number behind a space, and what follows it.
+/// The number after a space, and what follows it.
 fn spaced_number(bytes: &[u8]) -> Option<(u32, &[u8])>
     ensures some { IfSome result (λ found. bytes.now ≡ codes " " ++ (decimal found.0 ++ found.1.now)) }
     ensures only { IfSome result (λ found. (n : ℕ) (ns rest : List ℕ) → n < 2 ^ 32 → bytes.now ≡ spaced (n ∷ ns) ++ (codes "\n" ++ rest) → (n ≡ found.0) × (found.1.now ≡ spaced ns ++ (codes "\n" ++ rest))) }
@@ -43,12 +47,12 @@ fn spaced_number(bytes: &[u8]) -> Option<(u32, &[u8])>
     Some((u32::try_from(number).ok()?, rest))
 }
 
-/// The numbers up to the end of the line, each behind a space, and what follows the line.
+/// The numbers up to the end of the line, each after a space, and what follows the line.
 fn spaced_numbers(bytes: &[u8]) -> Option<(Numbers, &[u8])>
     ensures some { IfSome result (λ found. bytes.now ≡ spaced found.0.items ++ (codes "\n" ++ found.1.now)) }
-    ensures few { IfSome result (λ found. length found.0.items ≤ 66) }
+    ensures few { IfSome result (λ found. length found.0.items ≤ MOST_NUMBERS) }
     ensures small { IfSome result (λ found. AllByRecursion (λ n. n < 2 ^ 32) found.0.items) }
-    ensures none { IfNone result ((ns rest : List ℕ) → length ns ≤ 66 → AllByRecursion (λ n. n < 2 ^ 32) ns → ¬ (bytes.now ≡ spaced ns ++ (codes "\n" ++ rest))) }
+    ensures none { IfNone result ((ns rest : List ℕ) → length ns ≤ MOST_NUMBERS → AllByRecursion (λ n. n < 2 ^ 32) ns → ¬ (bytes.now ≡ spaced ns ++ (codes "\n" ++ rest))) }
 {
     let mut numbers = Numbers::new();
     let mut rest = bytes;

@@ -2,7 +2,8 @@
 ghost use Rattle.std.specs.Prelude.{◌≡◌, ℕ, ◌≤◌, ◌<◌, ◌^◌, ◌++◌, [], List, codes, decimal, Err, IfSome, IfOk, IfErr};
 ghost use Rattle.std.specs.Option.{IfNone};
 ghost use Rattle.tw_gate.specs.declared.gate.Level.{Level};
-ghost use Rattle.tw_gatetext.specs.FileLimits.{most_wires, most_gates};
+ghost use Rattle.tw_text.specs.Limits.{limit_of};
+ghost use Rattle.tw_text.specs.declared.limits.TheConstants.{WIRES_LIMIT, LINES_LIMIT};
 ghost use Rattle.tw_gatetext.specs.Text.{level_word};
 ghost use Rattle.tw_gatetext.specs.Numerals.{IsNumeral};
 ghost use Rattle.tw_gatetext.specs.Lines.{AtVersion, AtLevel, AtWires, AtGates, AtTCount, InBody, StepsTo, Reaches};
@@ -11,7 +12,7 @@ ghost use Rattle.tw_gatetext.specs.Reading.{limit_seen, head_seen, IsRefusedLine
 ghost use Rattle.tw_gatetext.specs.declared.file.GateFault.{GateFault};
 
 use crate::file::GateFault;
-use crate::line_fault::{LineFault, NumberLimit, refused_line};
+use crate::line_fault::{NumberLimit, refused_line};
 use crate::numbers::{number_line, numeral_line};
 use tw_gate::Level;
 use tw_text::{Counted, after};
@@ -21,24 +22,22 @@ use tw_text::{Counted, after};
 pub struct Header<'b> {
     /// Which kinds of gates the file holds.
     pub level: Level,
-    /// The number of its wires, from 1 to 1,048,576.
+    /// The number of its wires, at least 1.
     pub wires: u32,
-    /// How many gate lines follow, at most 4,194,304.
+    /// How many gate lines follow.
     pub gates: u32,
-    /// The digits of the T-count, as they stand on the line.
+    /// The digits of the T-count, as they are on the line.
     pub t_count: &'b [u8],
 }
 
 const WIRES: NumberLimit = NumberLimit {
     word: b"wires ",
     what: Counted::Wires,
-    most: 1_048_576,
 };
 
 const GATES: NumberLimit = NumberLimit {
     word: b"gates ",
     what: Counted::Lines,
-    most: 4_194_304,
 };
 
 fn version_line(bytes: &[u8]) -> Option<&[u8]>
@@ -70,40 +69,40 @@ fn level_line(bytes: &[u8]) -> Option<(Level, &[u8])>
     level_word(after(bytes, b"level ")?)
 }
 
-/// The number on a line of a word and a number, from `least` to the limit, and what follows the line.
+/// The number on a line of a keyword and a number, from `least` to the limit, and what follows the line.
 fn counted_number<'b>(limit: &NumberLimit, least: u64, bytes: &'b [u8]) -> Option<(u32, &'b [u8])>
-    requires { limit.now.most ≤ 2 ^ 31 }
-    ensures some { IfSome result (λ read. (bytes.now ≡ limit.now.word.now ++ (decimal read.0 ++ (codes "\n" ++ read.1.now))) × (least ≤ read.0) × (read.0 ≤ limit.now.most)) }
-    ensures none { IfNone result ((n : ℕ) (rest : List ℕ) → least ≤ n → n ≤ limit.now.most → ¬ (bytes.now ≡ limit.now.word.now ++ (decimal n ++ (codes "\n" ++ rest)))) }
+    requires { limit_of limit.now.what ≤ 2 ^ 31 }
+    ensures some { IfSome result (λ read. (bytes.now ≡ limit.now.word.now ++ (decimal read.0 ++ (codes "\n" ++ read.1.now))) × (least ≤ read.0) × (read.0 ≤ limit_of limit.now.what)) }
+    ensures none { IfNone result ((n : ℕ) (rest : List ℕ) → least ≤ n → n ≤ limit_of limit.now.what → ¬ (bytes.now ≡ limit.now.word.now ++ (decimal n ++ (codes "\n" ++ rest)))) }
 {
     let behind = after(bytes, limit.word)?;
     let (number, rest) = number_line(behind)?;
-    if least <= number && number <= limit.most {
+    if least <= number && number <= limit.what.limit() {
         Some((number as u32, rest))
     } else {
         None
     }
 }
 
-fn wires_line(bytes: &[u8]) -> Result<(u32, &[u8]), LineFault>
+fn wires_line(bytes: &[u8]) -> Result<(u32, &[u8]), GateFault>
     ensures right { IfOk result (λ read. (level : Level) → StepsTo (AtWires level) bytes.now (AtGates level read.0) read.1.now) }
-    ensures within { IfOk result (λ read. (1 ≤ read.0) × (read.0 ≤ most_wires)) }
-    ensures refused { IfErr result (λ why. (level : Level) → IsRefusedLine (AtWires level) bytes.now why) }
+    ensures within { IfOk result (λ read. (1 ≤ read.0) × (read.0 ≤ WIRES_LIMIT)) }
+    ensures refused { IfErr result (λ why. (level : Level) → IsRefusedLine (AtWires level) bytes.now 3 why) }
 {
     match counted_number(&WIRES, 1, bytes) {
         Some((wires, rest)) => Ok((wires, rest)),
-        None => Err(refused_line(&WIRES, bytes)),
+        None => Err(refused_line(&WIRES, 3, bytes)),
     }
 }
 
-fn gates_line(bytes: &[u8]) -> Result<(u32, &[u8]), LineFault>
+fn gates_line(bytes: &[u8]) -> Result<(u32, &[u8]), GateFault>
     ensures right { IfOk result (λ read. (level : Level) (wires : ℕ) → StepsTo (AtGates level wires) bytes.now (AtTCount level wires read.0) read.1.now) }
-    ensures within { IfOk result (λ read. read.0 ≤ most_gates) }
-    ensures refused { IfErr result (λ why. (level : Level) (wires : ℕ) → IsRefusedLine (AtGates level wires) bytes.now why) }
+    ensures within { IfOk result (λ read. read.0 ≤ LINES_LIMIT) }
+    ensures refused { IfErr result (λ why. (level : Level) (wires : ℕ) → IsRefusedLine (AtGates level wires) bytes.now 4 why) }
 {
     match counted_number(&GATES, 0, bytes) {
         Some((gates, rest)) => Ok((gates, rest)),
-        None => Err(refused_line(&GATES, bytes)),
+        None => Err(refused_line(&GATES, 4, bytes)),
     }
 }
 
@@ -118,7 +117,7 @@ fn t_count_line(bytes: &[u8]) -> Option<(&[u8], &[u8])>
 /// Reads the five header lines: what they tell, and what follows them.
 pub fn read_header(bytes: &[u8]) -> Result<(Header<'_>, &[u8]), GateFault>
     ensures read { IfOk result (λ read. Reaches bytes.now 5 (InBody (head_seen read.0) []) read.1.now) }
-    ensures within { IfOk result (λ read. (1 ≤ read.0.wires) × (read.0.wires ≤ most_wires) × (read.0.gates ≤ most_gates)) }
+    ensures within { IfOk result (λ read. (1 ≤ read.0.wires) × (read.0.wires ≤ WIRES_LIMIT) × (read.0.gates ≤ LINES_LIMIT)) }
     ensures refused { IfErr result (λ why. IsRefusedText bytes.now why) }
 {
     let Some(rest) = version_line(bytes) else {
@@ -127,14 +126,8 @@ pub fn read_header(bytes: &[u8]) -> Result<(Header<'_>, &[u8]), GateFault>
     let Some((level, rest)) = level_line(rest) else {
         return Err(GateFault::BadGateText { line: 2 });
     };
-    let (wires, rest) = match wires_line(rest) {
-        Ok(read) => read,
-        Err(fault) => return Err(fault.behind(2)),
-    };
-    let (gates, rest) = match gates_line(rest) {
-        Ok(read) => read,
-        Err(fault) => return Err(fault.behind(3)),
-    };
+    let (wires, rest) = wires_line(rest)?;
+    let (gates, rest) = gates_line(rest)?;
     let Some((t_count, rest)) = t_count_line(rest) else {
         return Err(GateFault::BadGateText { line: 5 });
     };

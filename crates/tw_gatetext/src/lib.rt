@@ -1,6 +1,6 @@
 //! Gate files: the text of a file, written to a sink piece by piece with no memory of its own, and read back.
-//! `specs/` says which text a file has, which files are valid, which line may stand where, and how bytes that begin with no
-//! file are refused; `proofs/` shows that the text tells the file.
+//! `specs/` says which text a file has, which files are valid, which line may come where, and how bytes that begin with no
+//! file are refused; `proofs/` shows that the text of a file determines it.
 #![tactic(auto)]
 
 mod file;
@@ -21,4 +21,4 @@ mod writing;
 pub use file::{GateFault, GateFile};
 pub use line_out::LineOut;
 pub use reading::read_gates;
-pub use writing::{write_end, write_file, write_gate, write_gate_file, write_gates, write_header};
+pub use writing::{write_end, write_gate, write_gate_file, write_header};

@@ -10,10 +10,10 @@ use tw_io::{Sink, WriteFault};
 
 /// Writes the line of each gate that it takes to a sink, as [`write_gate`] does. It takes no memory.
 ///
-/// A gate fits it that has at most 64 controls and all its wires below 1,048,576.
+/// A gate fits if the numbers of its controls and of its wires are within their limits.
 #[derive(Drop)]
 pub struct LineOut<'k, K> {
-    /// The sink that takes the lines; its count of faults is the taker's.
+    /// The sink that takes the lines; its fault counter is the taker's.
     pub sink: &'k mut K,
 }
 

@@ -1,15 +1,15 @@
-//! The pieces of a gate file's text, put together on the stack.
+//! The pieces of a gate file's text, composed on the stack.
 ghost use Rattle.std.specs.Prelude.{◌≡◌, ℕ, ◌+◌, ◌*◌, ◌≤◌, [], ◌∷◌, ◌++◌, length, codes, decimal};
 ghost use Rattle.arrayvec.specs.ArrayString.{array_string_len};
 ghost use Rattle.tw_gate.specs.Gates.{plain, X};
-ghost use Rattle.tw_gatetext.specs.FileLimits.{most_controls};
+ghost use Rattle.tw_text.specs.declared.limits.TheConstants.{CONTROLS_LIMIT};
 ghost use Rattle.tw_gatetext.specs.Text.{level_word, x_words, spaced, line, header, HasFewControls};
 
 use arrayvec::ArrayString;
 use itoa::Buffer;
 use tw_gate::{Gate, Level};
 
-/// The longest line, of 64 controls, takes fewer bytes.
+/// The longest line takes fewer bytes.
 pub type Line = ArrayString<1024>;
 
 /// The five header lines take fewer bytes.
@@ -68,7 +68,7 @@ fn push_wire_line(text: &mut Line, word: &str, wire: u32)
 }
 
 fn push_x_line(text: &mut Line, controls: &[u32], target: u32)
-    requires few { length controls.now ≤ most_controls }
+    requires few { length controls.now ≤ CONTROLS_LIMIT }
     requires room { array_string_len text.old ≤ 100 }
     ensures { text.new.bytes ≡ text.old.bytes ++ line (X controls.now target) }
 {
@@ -80,7 +80,7 @@ fn push_x_line(text: &mut Line, controls: &[u32], target: u32)
     text.push_str("\n");
 }
 
-/// Appends the words that begin the line of an X gate.
+/// Appends the keyword and the count that begin the line of an X gate.
 fn push_x_words(line: &mut Line, controls: usize)
     requires { array_string_len line.old ≤ 100 }
     ensures text { line.new.bytes ≡ line.old.bytes ++ x_words controls }
@@ -97,7 +97,7 @@ fn push_x_words(line: &mut Line, controls: usize)
     }
 }
 
-/// Appends a number behind a space.
+/// Appends a space and a number.
 fn push_number(line: &mut Line, n: u32)
     requires { array_string_len line.old ≤ 1000 }
     ensures text { line.new.bytes ≡ line.old.bytes ++ (codes " " ++ decimal n) }

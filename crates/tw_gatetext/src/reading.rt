@@ -3,7 +3,7 @@ ghost use Rattle.std.specs.Prelude.{◌≡◌, ◌≢◌, ◌⊎◌, ◌<◌, �
 ghost use Rattle.std.specs.Option.{IfNone};
 ghost use Rattle.tw_gate.specs.Gates.{PlainGate, plain};
 ghost use Rattle.tw_gate.specs.Weight.{gate_weight, t_count};
-ghost use Rattle.tw_gatetext.specs.FileLimits.{most_wires, most_gates};
+ghost use Rattle.tw_text.specs.declared.limits.TheConstants.{WIRES_LIMIT, LINES_LIMIT};
 ghost use Rattle.tw_gatetext.specs.Text.{File, file_text, HasFewControls};
 ghost use Rattle.tw_gatetext.specs.Valid.{FitsLevel, FitsWires};
 ghost use Rattle.tw_gatetext.specs.LineWords.{letters, numbers_of};
@@ -13,13 +13,12 @@ ghost use Rattle.tw_gatetext.specs.Files.{plain_file, BeginsWith};
 ghost use Rattle.tw_gatetext.specs.Refused.{IsWrong, IsRefusedText};
 ghost use Rattle.tw_gatetext.specs.declared.file.GateFault.{GateFault};
 ghost use Rattle.tw_gatetext.specs.declared.file.GateFault.TheVariants as fault;
-ghost use Rattle.tw_gatetext.specs.declared.line_fault.LineFault.TheVariants as line_fault;
 
 use crate::file::{GateFault, GateFile};
 use crate::gate_fits::{fits_level, fits_wires};
 use crate::gate_words::{LineWords, gate_of, line_words};
 use crate::header::{Header, read_header};
-use crate::line_fault::{LineFault, NumberLimit, refused_line};
+use crate::line_fault::{NumberLimit, refused_line};
 use itoa::Buffer;
 use std::alloc::Global;
 use tw_gate::{Gate, GateList, Level};
@@ -29,21 +28,20 @@ use tw_text::{Counted, after};
 const CONTROLS: NumberLimit = NumberLimit {
     word: b"mcx ",
     what: Counted::Controls,
-    most: 64,
 };
 
-/// Why a line is refused that is no right gate line.
-fn refused_gate_line(level: Level, bytes: &[u8]) -> LineFault
+/// Why the line of this number is refused that is no right gate line.
+fn refused_gate_line(level: Level, line: u32, bytes: &[u8]) -> GateFault
     ensures refused { (head : Head) (gates : List PlainGate) → head.level ≡ level → length gates < head.gates
-        → ((next : Progress) (rest : List ℕ) → ¬ StepsTo (InBody head gates) bytes.now next rest) → IsRefusedLine (InBody head gates) bytes.now result }
+        → ((next : Progress) (rest : List ℕ) → ¬ StepsTo (InBody head gates) bytes.now next rest) → IsRefusedLine (InBody head gates) bytes.now line result }
 {
     match level {
-        Level::Mcx => refused_line(&CONTROLS, bytes),
-        Level::Tof | Level::T => LineFault::Wrong,
+        Level::Mcx => refused_line(&CONTROLS, line, bytes),
+        Level::Tof | Level::T => GateFault::BadGateText { line },
     }
 }
 
-/// The gate of a line, where it fits a file with this header.
+/// The gate of a line, if it fits a file with this header.
 fn right_gate<'w>(header: &Header, words: &'w LineWords) -> Option<Gate<'w>>
     ensures some { IfSome result (λ gate. FitsLevel header.now.level (plain gate) × FitsWires header.now.wires (plain gate)
         × (words.now.letters.now ≡ letters (plain gate)) × (words.now.numbers.items ≡ numbers_of (plain gate))) }
@@ -58,31 +56,32 @@ fn right_gate<'w>(header: &Header, words: &'w LineWords) -> Option<Gate<'w>>
     }
 }
 
-/// Takes a gate line: appends its gate to the list, and gives the T-count of the gate and what follows the line.
+/// Takes the gate line of this number: appends its gate to the list, and gives the T-count of the gate and what follows the line.
 fn take_gate<'b>(
     header: &Header,
+    line: u32,
     bytes: &'b [u8],
     gates: &mut GateList,
-) -> Result<(u64, &'b [u8]), LineFault>
-    requires few_wires { header.now.wires ≤ most_wires }
+) -> Result<(u64, &'b [u8]), GateFault>
+    requires few_wires { header.now.wires ≤ WIRES_LIMIT }
     requires more { length gates.old < header.now.gates }
     ensures right { IfOk result (λ taken. StepsTo (InBody (head_seen header.now) gates.old) bytes.now (InBody (head_seen header.now) gates.new) taken.1.now) }
     ensures taken { IfOk result (λ taken. (gate : PlainGate) × (gates.new ≡ gates.old ++ gate ∷ []) × (taken.0 ≡ gate_weight gate) × HasFewControls gate) }
-    ensures refused { IfErr result (λ why. (why ≡ line_fault.Memory) ⊎ IsRefusedLine (InBody (head_seen header.now) gates.old) bytes.now why) }
+    ensures refused { IfErr result (λ why. (why ≡ fault.Memory) ⊎ IsRefusedLine (InBody (head_seen header.now) gates.old) bytes.now line why) }
 {
     let Some(words) = line_words(bytes) else {
-        return Err(refused_gate_line(header.level, bytes));
+        return Err(refused_gate_line(header.level, line, bytes));
     };
     let Some(gate) = right_gate(header, &words) else {
-        return Err(refused_gate_line(header.level, bytes));
+        return Err(refused_gate_line(header.level, line, bytes));
     };
     match gates.push(&gate) {
         Ok(()) => Ok((gate.t_count(), words.rest)),
-        Err(_) => Err(LineFault::Memory),
+        Err(_) => Err(GateFault::Memory),
     }
 }
 
-/// The gates behind a header, with their T-count, and what follows their lines.
+/// The gates after a header, with their T-count, and what follows their lines.
 #[derive(Drop)]
 struct Body<'b> {
     gates: GateList,
@@ -90,10 +89,10 @@ struct Body<'b> {
     rest: &'b [u8],
 }
 
-/// Reads the gate lines behind a header.
+/// Reads the gate lines after a header.
 fn read_body<'b>(alloc: Global, header: &Header, bytes: &'b [u8]) -> Result<Body<'b>, GateFault>
-    requires few_wires { header.now.wires ≤ most_wires }
-    requires few_gates { header.now.gates ≤ most_gates }
+    requires few_wires { header.now.wires ≤ WIRES_LIMIT }
+    requires few_gates { header.now.gates ≤ LINES_LIMIT }
     ensures read { IfOk result (λ body. (all : List ℕ) → Reaches all 5 (InBody (head_seen header.now) []) bytes.now
         → Reaches all (5 + header.now.gates) (InBody (head_seen header.now) body.gates) body.rest.now) }
     ensures counted { IfOk result (λ body. (length body.gates ≡ header.now.gates) × (body.t_count ≡ t_count body.gates)) }
@@ -104,13 +103,9 @@ fn read_body<'b>(alloc: Global, header: &Header, bytes: &'b [u8]) -> Result<Body
     let mut t_count = 0;
     let mut rest = bytes;
     for lines in 0..header.gates {
-        match take_gate(header, rest, &mut gates) {
-            Ok((weight, behind)) => {
-                t_count += weight;
-                rest = behind;
-            }
-            Err(fault) => return Err(fault.behind(5 + lines)),
-        }
+        let (weight, behind) = take_gate(header, 6 + lines, rest, &mut gates)?;
+        t_count += weight;
+        rest = behind;
     }
     Ok(Body {
         gates,
@@ -154,8 +149,8 @@ fn file_at(alloc: Global, bytes: &[u8]) -> Result<(GateFile, &[u8]), GateFault>
 /// Reads the gate file at the front of the bytes: the file, and the number of bytes that it takes.
 ///
 /// The errors: the first line that is wrong in its place, or is missing; a limit that the number of wires, the number of gates
-/// or, at level mcx, the number of controls passes; the line of the T-count, once all lines are read, where it is not that of
-/// the gates; and memory. Nothing is copied but the gates. `docs/FORMATS.md` has the text and the order of its refusals.
+/// or, at level mcx, the number of controls passes; the line of the T-count, once all lines are read, if it is not that of
+/// the gates; out of memory. Nothing is copied but the gates. `docs/FORMATS.md` has the text and the order of its refusals.
 pub fn read_gates(alloc: Global, bytes: &[u8]) -> Result<(GateFile, usize), GateFault>
     ensures file { IfOk result (λ read. BeginsWith bytes.now (plain_file read.0) (drop read.1 bytes.now)) }
     ensures size { IfOk result (λ read. read.1 ≡ length (file_text (plain_file read.0))) }

@@ -5,10 +5,11 @@ ghost use Rattle.tw_gate.specs.Taking.{Gave};
 ghost use Rattle.tw_gatetext.specs.Text.{lines};
 ghost use Rattle.tw_gatetext.specs.Taking.{FitsLine};
 
-use crate::{LineOut, write_file, write_gate, write_header};
+use crate::{GateFault, LineOut, read_gates, write_gate, write_gate_file, write_header};
 use std::alloc::{AllocError, Global};
 use tw_gate::{Gate, GateOut, Level, Stopped};
 use tw_io::{Failed, MemSink, Sink, WriteFault};
+use tw_text::{Counted, Pos, Refusal};
 
 /// A sink that takes at most three bytes of a piece at a time.
 #[derive(Drop)]
@@ -30,34 +31,14 @@ impl Sink for PartSink {
 const EXAMPLE: &[u8] = b"tower-gates 1\nlevel mcx\nwires 7\ngates 5\nt-count 7\n\
     cx 2 5\ncx 3 6\nccx 5 6 4\ncx 3 6\ncx 2 5\nend\n";
 
-const INVERSE: &[u8] = b"tower-gates 1\nlevel t\nwires 2\ngates 2\nt-count 1\nh 1\ntdg 0\nend\n";
+const LEVEL_T: &[u8] = b"tower-gates 1\nlevel t\nwires 2\ngates 2\nt-count 1\nh 1\ntdg 0\nend\n";
 
-fn write_example<K: Sink>(sink: &mut K) -> bool {
-    let first = Gate::X {
-        controls: &[2],
-        target: 5,
-    };
-    let second = Gate::X {
-        controls: &[3],
-        target: 6,
-    };
-    let flip = Gate::X {
-        controls: &[5, 6],
-        target: 4,
-    };
-    write_file(
-        sink,
-        Level::Mcx,
-        7,
-        7,
-        &[first, second, flip, second, first],
-        false,
-    )
-    .is_ok()
-}
-
-fn write_inverse<K: Sink>(sink: &mut K) -> bool {
-    write_file(sink, Level::T, 2, 1, &[Gate::T(0), Gate::H(1)], true).is_ok()
+/// Reads the gate file that a text is, and writes it.
+fn write_back<K: Sink>(alloc: Global, text: &[u8], sink: &mut K) -> bool {
+    match read_gates(alloc, text) {
+        Ok((file, _)) => write_gate_file(sink, &file).is_ok(),
+        Err(_) => false,
+    }
 }
 
 fn put_once<O: GateOut>(out: &mut O, gate: &Gate) -> Result<(), Stopped>
@@ -85,38 +66,42 @@ fn ample(alloc: Global) -> Result<MemSink, AllocError> {
 
 #[test]
 fn writes_whole_files(rt: HostRuntime) -> Result<(), AllocError> {
-    let mut sink = ample(rt.alloc())?;
-    assert!(rt; write_example(&mut sink));
-    assert_eq!(rt; sink.taken(), EXAMPLE);
-    let mut sink = ample(rt.alloc())?;
-    assert!(rt; write_inverse(&mut sink));
-    assert_eq!(rt; sink.taken(), INVERSE);
-    Ok(())
-}
-
-#[test]
-fn writes_to_a_sink_that_takes_parts(rt: HostRuntime) -> Result<(), AllocError> {
-    let mut parts = PartSink {
-        sink: ample(rt.alloc())?,
-    };
-    assert!(rt; write_example(&mut parts));
-    assert_eq!(rt; parts.sink.taken(), EXAMPLE);
-    let mut parts = PartSink {
-        sink: ample(rt.alloc())?,
-    };
-    assert!(rt; write_inverse(&mut parts));
-    assert_eq!(rt; parts.sink.taken(), INVERSE);
+    for text in [EXAMPLE, LEVEL_T] {
+        let mut sink = ample(rt.alloc())?;
+        assert!(rt; write_back(rt.alloc(), text, &mut sink));
+        assert_eq!(rt; sink.taken(), text);
+        let mut parts = PartSink {
+            sink: ample(rt.alloc())?,
+        };
+        assert!(rt; write_back(rt.alloc(), text, &mut parts));
+        assert_eq!(rt; parts.sink.taken(), text);
+    }
     Ok(())
 }
 
 #[test]
 fn stops_at_the_first_fault(rt: HostRuntime) -> Result<(), AllocError> {
-    let mut sink = MemSink::new(rt.alloc(), 1_000, vec![in rt.alloc(); 3]?)?;
-    assert!(rt; !write_example(&mut sink));
-    assert_eq!(rt;
-        sink.taken(),
-        b"tower-gates 1\nlevel mcx\nwires 7\ngates 5\nt-count 7\ncx 2 5\n".as_slice()
-    );
+    let mut sink = MemSink::new(rt.alloc(), 60, Vec::new(rt.alloc()))?;
+    assert!(rt; !write_back(rt.alloc(), EXAMPLE, &mut sink));
+    assert!(rt; EXAMPLE.starts_with(sink.taken()));
+    assert!(rt; sink.taken().len() <= 60);
+    Ok(())
+}
+
+#[test]
+fn errors_have_texts(rt: HostRuntime) -> Result<(), AllocError> {
+    let passed = Refusal::passed(Counted::Wires, 1_048_577, Pos { line: 1, col: 1 });
+    let table = [
+        (
+            GateFault::BadGateText { line: 3 },
+            "a line of the gate file is wrong",
+        ),
+        (GateFault::Over(passed), "the gate file passes a limit"),
+        (GateFault::Memory, "out of memory"),
+    ];
+    for (fault, text) in table {
+        assert_eq!(rt; format!(in rt.alloc(); "{fault}")?.as_str(), text);
+    }
     Ok(())
 }
 

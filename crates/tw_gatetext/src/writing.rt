@@ -1,8 +1,7 @@
 //! Writing gate files to a sink.
-ghost use Rattle.std.specs.Prelude.{true, false, map};
 ghost use Rattle.std.specs.List.{AllByRecursion};
 ghost use Rattle.tw_io.specs.Devices.{Wrote};
-ghost use Rattle.tw_gate.specs.Gates.{plain, directed};
+ghost use Rattle.tw_gate.specs.Gates.{plain};
 ghost use Rattle.tw_gatetext.specs.Text.{line, lines, header, last_line, file_text, HasFewControls};
 ghost use Rattle.tw_gatetext.specs.Files.{plain_file};
 
@@ -13,7 +12,7 @@ use tw_io::{Sink, WriteFault, write_all};
 
 /// Writes the five header lines as one piece: the version, the level, the numbers of wires and of gates, and the T-count.
 ///
-/// At a fault the sink has taken a front of them.
+/// At a fault the sink has taken a prefix of them.
 pub fn write_header<K: Sink>(
     sink: &mut K,
     level: Level,
@@ -27,9 +26,9 @@ pub fn write_header<K: Sink>(
     write_all(sink, text.as_str().as_bytes())
 }
 
-/// Writes the line of a gate of at most 64 controls as one piece.
+/// Writes the line of a gate as one piece. The number of its controls is within its limit.
 ///
-/// At a fault the sink has taken a front of the line.
+/// At a fault the sink has taken a prefix of the line.
 pub fn write_gate<K: Sink>(sink: &mut K, gate: &Gate) -> Result<(), WriteFault>
     requires { HasFewControls (plain gate.now) }
     ensures wrote { Wrote K.taken K.faults sink.old sink.new result (line (plain gate.now)) }
@@ -41,75 +40,17 @@ pub fn write_gate<K: Sink>(sink: &mut K, gate: &Gate) -> Result<(), WriteFault>
 
 /// Writes the last line.
 ///
-/// At a fault the sink has taken a front of it.
+/// At a fault the sink has taken a prefix of it.
 pub fn write_end<K: Sink>(sink: &mut K) -> Result<(), WriteFault>
     ensures wrote { Wrote K.taken K.faults sink.old sink.new result last_line }
 {
     write_all(sink, b"end\n")
 }
 
-/// Writes the lines of these gates, or where `inverse` holds those of their inverse: the inverse gates in reverse order.
-/// Each gate has at most 64 controls, and each line is one piece.
+/// Writes the text of a file in memory. Its header counts its gates and gives its T-count as it is. The number of controls of
+/// each gate is within its limit, and each line is one piece.
 ///
-/// At a fault the sink has taken a front of the lines.
-pub fn write_gates<K: Sink>(sink: &mut K, gates: &[Gate], inverse: bool) -> Result<(), WriteFault>
-    requires { AllByRecursion HasFewControls (map plain gates.now) }
-    ensures wrote { Wrote K.taken K.faults sink.old sink.new result (lines (directed inverse (map plain gates.now))) }
-{
-    if inverse {
-        write_backward(sink, gates)
-    } else {
-        write_forward(sink, gates)
-    }
-}
-
-fn write_forward<K: Sink>(sink: &mut K, gates: &[Gate]) -> Result<(), WriteFault>
-    requires { AllByRecursion HasFewControls (map plain gates.now) }
-    ensures wrote { Wrote K.taken K.faults sink.old sink.new result (lines (directed false (map plain gates.now))) }
-{
-    for gate in gates {
-        write_gate(sink, gate)?;
-    }
-    Ok(())
-}
-
-fn write_backward<K: Sink>(sink: &mut K, gates: &[Gate]) -> Result<(), WriteFault>
-    requires { AllByRecursion HasFewControls (map plain gates.now) }
-    ensures wrote { Wrote K.taken K.faults sink.old sink.new result (lines (directed true (map plain gates.now))) }
-{
-    let mut left = gates.len();
-    while left > 0 {
-        left -= 1;
-        write_gate(sink, &gates[left].inverse())?;
-    }
-    Ok(())
-}
-
-/// Writes a whole file: the header, the lines of these gates or of their inverse, and the last line.
-/// The header counts the gates and gives `t_count` as it stands. Each gate has at most 64 controls.
-///
-/// At a fault the sink has taken a front of the file.
-pub fn write_file<K: Sink>(
-    sink: &mut K,
-    level: Level,
-    wires: u32,
-    t_count: u64,
-    gates: &[Gate],
-    inverse: bool,
-) -> Result<(), WriteFault>
-    requires { AllByRecursion HasFewControls (map plain gates.now) }
-    ensures wrote { Wrote K.taken K.faults sink.old sink.new result
-        (file_text (record { level = level; wires = wires; t_count = t_count; gates = directed inverse (map plain gates.now) })) }
-{
-    write_header(sink, level, wires, gates.len() as u64, t_count)?;
-    write_gates(sink, gates, inverse)?;
-    write_end(sink)
-}
-
-/// Writes the text of a file in memory. Its header counts its gates and gives its T-count as it stands. Each gate has at most 64
-/// controls, and each line is one piece.
-///
-/// At a fault the sink has taken a front of the text.
+/// At a fault the sink has taken a prefix of the text.
 pub fn write_gate_file<K: Sink>(sink: &mut K, file: &GateFile) -> Result<(), WriteFault>
     requires { AllByRecursion HasFewControls file.now.gates }
     ensures wrote { Wrote K.taken K.faults sink.old sink.new result (file_text (plain_file file.now)) }

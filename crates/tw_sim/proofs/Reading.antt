@@ -2,6 +2,7 @@
 use Rattle.std.proofs.Common.{◌≡◌, ◌≢◌, ◌∙◌, ap, sym, refl, ℕ, ◌+◌, ◌<◌, nat_eq, Bool, true, false, List, [], ◌∷◌, ◌++◌, length, append_assoc, append-nil, length-append, arith}
 use Rattle.std.proofs.lemmas.Bool.{eqb-true}
 use Rattle.std.proofs.lemmas.List.{nil_from_length}
+use Rattle.tw_text.specs.declared.limits.TheConstants.{STATES_LIMIT}
 use Rattle.tw_sim.specs.BitLines.{bit_line, bit_lines, HaveWires, HasNoLine, AreRefused, WrongLine, TooMany, too_many}
 use Rattle.tw_sim.specs.declared.lines.LinesFault.TheVariants as fault
 
@@ -14,7 +15,7 @@ pub HaveWires-append : (wires : ℕ) (states more : List (List Bool)) → HaveWi
 HaveWires-append wires [] more wide wide' = wide'
 HaveWires-append wires (bits ∷ states) more wide wide' = (wide.0, HaveWires-append wires states more wide.1 wide')
 
--- so many right lines stand in front of the rest
+-- so many right lines precede the rest
 pub record AreRead (wires : ℕ) (text rest : List ℕ) (count : ℕ) : Type 0 where
   pub states : List (List Bool)
   pub spelled : text ≡ bit_lines states ++ rest
@@ -42,11 +43,11 @@ pub some_bytes : (rest : List ℕ) (empty : Bool) → empty ≡ nat_eq (length r
 some_bytes [] empty is other = λ e. cc
 some_bytes (byte ∷ rest) empty is other = λ e. cc
 
--- no line stands behind them
-pub read_wrong : {wires : ℕ} {text rest : List ℕ} {count : ℕ} → AreRead wires text rest count → count < 1024 → rest ≢ [] → HasNoLine wires rest → AreRefused wires text (fault.BitsLength (count + 1))
+-- no line follows them
+pub read_wrong : {wires : ℕ} {text rest : List ℕ} {count : ℕ} → AreRead wires text rest count → count < STATES_LIMIT → rest ≢ [] → HasNoLine wires rest → AreRefused wires text (fault.BitsLength (count + 1))
 read_wrong {rest} read few some none =
     WrongLine read.states rest read.spelled read.wide (omega (arith, read.many)) some none (ap (λ n. fault.BitsLength (n + 1)) (sym read.many))
 
--- something stands behind 1,024 of them
-pub read_many : {wires : ℕ} {text rest : List ℕ} {count : ℕ} → AreRead wires text rest count → count ≡ 1024 → rest ≢ [] → AreRefused wires text (fault.Over too_many)
+-- something follows as many as the limit
+pub read_many : {wires : ℕ} {text rest : List ℕ} {count : ℕ} → AreRead wires text rest count → count ≡ STATES_LIMIT → rest ≢ [] → AreRefused wires text (fault.Over too_many)
 read_many {rest} read many some = TooMany read.states rest read.spelled read.wide (read.many ∙ many) some refl

@@ -1,10 +1,11 @@
--- Lines of bits: one for each state of the wires, wire 0 first; and how a text is refused that has others.
+-- Lines of bits: one for each state of the wires, wire 0 first; and how other texts are refused.
 use Rattle.std.specs.Prelude.{◌≡◌, ◌≢◌, ℕ, ◌+◌, ◌<◌, ◌≤◌, Bool, true, false, List, [], ◌∷◌, ◌++◌, length, map, codes, refl}
 use Rattle.std.specs.List.{AllByRecursion}
 use Rattle.tw_text.specs.declared.refusal.Counted.TheVariants as counted
-use Rattle.tw_text.specs.declared.refusal.Rule.TheVariants as rule
+use Rattle.tw_text.specs.declared.limits.TheConstants.{STATES_LIMIT}
 use Rattle.tw_text.specs.declared.refusal.Refusal.{Refusal}
 use Rattle.tw_text.specs.Places.{first_place}
+use Rattle.tw_text.specs.Refusals.{passed}
 use Rattle.tw_sim.specs.declared.lines.LinesFault.{LinesFault}
 use Rattle.tw_sim.specs.declared.lines.LinesFault.TheVariants as fault
 
@@ -26,26 +27,26 @@ bit_lines (bits ∷ states) = bit_line bits ++ bit_lines states
 abbrev pub HaveWires : ℕ → List (List Bool) → Type 0
 HaveWires wires states = AllByRecursion (λ bits. length bits ≡ wires) states
 
--- the text is the lines of these states, of so many wires each, and they are at most 1,024
+-- the text is the lines of these states, of so many wires each, and their number is within its limit
 pub record AreLinesOf (wires : ℕ) (text : List ℕ) (states : List (List Bool)) : Type 0 where
   pub spelled : text ≡ bit_lines states
   pub wide : HaveWires wires states
-  pub few : length states ≤ 1024
+  pub few : length states ≤ STATES_LIMIT
 
--- no line of so many bits stands at the front
+-- the text begins with no line of so many bits
 abbrev pub HasNoLine : ℕ → List ℕ → Type 0
 HasNoLine wires text = (bits : List Bool) (rest : List ℕ) → length bits ≡ wires → text ≢ bit_line bits ++ rest
 
--- the refusal of more lines than 1,024; one more is counted
+-- the refusal of too many lines; one more than the limit is counted
 abbrev pub too_many : Refusal
-too_many = record { rule = rule.Limit counted.States; at = first_place; found = 1025; limit = 1024 }
+too_many = passed counted.States (STATES_LIMIT + 1) first_place
 
--- Why a text is no lines of so many bits: behind right lines, fewer than 1,024, stands what is none, and lines count from 1;
--- or more stands behind 1,024 right lines, whatever it is.
+-- Why a text is not lines of so many bits: right lines, fewer than the limit, are followed by something else, and lines are
+-- counted from 1; or as many right lines as the limit are followed by more, whatever it is.
 pub data AreRefused (wires : ℕ) (text : List ℕ) (why : LinesFault) : Type 0 where
-  WrongLine : (states : List (List Bool)) (rest : List ℕ) → text ≡ bit_lines states ++ rest → HaveWires wires states → length states < 1024
+  WrongLine : (states : List (List Bool)) (rest : List ℕ) → text ≡ bit_lines states ++ rest → HaveWires wires states → length states < STATES_LIMIT
       → rest ≢ [] → HasNoLine wires rest → why ≡ fault.BitsLength (length states + 1) → AreRefused wires text why
-  TooMany : (states : List (List Bool)) (rest : List ℕ) → text ≡ bit_lines states ++ rest → HaveWires wires states → length states ≡ 1024
+  TooMany : (states : List (List Bool)) (rest : List ℕ) → text ≡ bit_lines states ++ rest → HaveWires wires states → length states ≡ STATES_LIMIT
       → rest ≢ [] → why ≡ fault.Over too_many → AreRefused wires text why
 
 pub bit_lines-two : bit_lines ((true ∷ false ∷ []) ∷ (false ∷ false ∷ []) ∷ []) ≡ codes "10\n00\n"

@@ -1,4 +1,4 @@
-//! Gates done to words, one for each wire: to 64 states at once.
+//! Gates applied to words, one for each wire: to 64 states at once.
 ghost use Rattle.std.specs.Prelude.{◌≡◌, ℕ, ◌<◌, List, length};
 ghost use Rattle.std.specs.List.{AllByRecursion};
 ghost use Rattle.tw_gate.specs.Gates.{PlainGate, plain, act_gate, all_one, HasWiresBelow};
@@ -18,7 +18,7 @@ fn where_one(wires: &[u32], words: &[u64]) -> u64
     lanes
 }
 
-/// Does a gate to each lane.
+/// Applies a gate to each lane.
 fn act_on_lanes(gate: &Gate, words: &mut [u64])
     requires { HasWiresBelow (length words.old) (plain gate.now) }
     ensures acted { (place : ℕ) → place < 64 → lane place words.new ≡ act_gate (plain gate.now) (lane place words.old) }
@@ -33,7 +33,7 @@ fn act_on_lanes(gate: &Gate, words: &mut [u64])
     }
 }
 
-/// Does the gates of a list, in order, to each lane.
+/// Applies the gates of a list, in order, to each lane.
 pub fn act_list_on_lanes(gates: &GateList, words: &mut [u64])
     requires { AllByRecursion (HasWiresBelow (length words.old)) gates.now }
     ensures acted { LanesActed gates.now words.old words.new }

@@ -5,31 +5,21 @@ ghost use Rattle.std.specs.Option.{IfNone};
 ghost use Rattle.tw_sim.specs.BitLines.{bit_line, AreLinesOf, AreRefused, HasNoLine};
 
 use thiserror::Error;
-use tw_text::{Counted, Pos, Refusal, Rule};
-
-/// The most lines of bits.
-const MOST_LINES: usize = 1024;
+use tw_text::{Counted, Pos, Refusal, STATES_LIMIT};
 
 /// Why lines of bits are not simulated.
 #[derive(Debug, Clone, Copy, PartialEq, Eq, Error)]
 pub enum LinesFault {
-    /// This line, counted from 1, is the first that is not as many characters `0` or `1` as there are wires, and a newline.
+    /// This line, counted from 1, is the first that is not a character `0` or `1` for each wire, and a newline.
     #[error("a line of bits is wrong")]
     BitsLength { line: u32 },
-    /// There are more than 1,024 lines.
+    /// The number of lines passes its limit.
     #[error("there are too many lines of bits")]
     Over(Refusal),
-    /// Memory is wanting.
-    #[error("memory is wanting")]
+    /// Out of memory.
+    #[error("out of memory")]
     Memory,
 }
-
-const TOO_MANY: Refusal = Refusal {
-    rule: Rule::Limit(Counted::States),
-    at: Pos { line: 1, col: 1 },
-    found: MOST_LINES as u64 + 1,
-    limit: MOST_LINES as u64,
-};
 
 /// Whether each byte is the character of a bit.
 fn are_digits(bytes: &[u8]) -> bool
@@ -53,13 +43,13 @@ fn behind_line(wires: usize, text: &[u8]) -> Option<&[u8]>
     }
 }
 
-/// Checks that a text is lines of so many bits, at most 1,024.
+/// Checks that a text is lines of so many bits, whose number is within its limit.
 pub fn check_lines(wires: usize, text: &[u8]) -> Result<(), LinesFault>
     ensures right { IfOk result (λ done. (states : List (List Bool)) × AreLinesOf wires text.now states) }
     ensures refused { IfErr result (λ why. AreRefused wires text.now why) }
 {
     let mut rest = text;
-    for line in 0..MOST_LINES {
+    for line in 0..STATES_LIMIT {
         if rest.is_empty() {
             return Ok(());
         }
@@ -75,6 +65,10 @@ pub fn check_lines(wires: usize, text: &[u8]) -> Result<(), LinesFault>
     if rest.is_empty() {
         Ok(())
     } else {
-        Err(LinesFault::Over(TOO_MANY))
+        Err(LinesFault::Over(Refusal::passed(
+            Counted::States,
+            STATES_LIMIT + 1,
+            Pos { line: 1, col: 1 },
+        )))
     }
 }

@@ -3,7 +3,7 @@ ghost use Rattle.std.specs.List.{AllByRecursion};
 ghost use Rattle.tw_gate.specs.Gates.{X, HasWiresBelow};
 
 use crate::{LinesFault, simulate};
-use std::alloc::Global;
+use std::alloc::{AllocError, Global};
 use tw_gate::{Gate, GateList};
 use tw_text::{Counted, Pos, Refusal, Rule};
 
@@ -120,6 +120,23 @@ fn refuses_too_many_lines(rt: HostRuntime) -> Result<(), LinesFault> {
                 limit: 1024,
             }))
         );
+    }
+    Ok(())
+}
+
+#[test]
+fn errors_have_texts(rt: HostRuntime) -> Result<(), AllocError> {
+    let passed = Refusal::passed(Counted::States, 1025, Pos { line: 1, col: 1 });
+    let table = [
+        (
+            LinesFault::BitsLength { line: 2 },
+            "a line of bits is wrong",
+        ),
+        (LinesFault::Over(passed), "there are too many lines of bits"),
+        (LinesFault::Memory, "out of memory"),
+    ];
+    for (fault, text) in table {
+        assert_eq!(rt; format!(in rt.alloc(); "{fault}")?.as_str(), text);
     }
     Ok(())
 }

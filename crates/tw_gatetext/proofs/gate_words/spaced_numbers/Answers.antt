@@ -1,5 +1,6 @@
 use Rattle.std.proofs.Common.{sym, length, arith, rules}
 use Rattle.std.proofs.lemmas.Bool.Decides.{Decides-eqb}
+use Rattle.tw_gatetext.specs.declared.gate_words.TheConstants.{MOST_NUMBERS}
 use Rattle.tw_gatetext.proofs.SpacedNumbers.{read-start, read-more, read-whole, read-none, read-full}
 use Rattle.tw_gatetext.proofs.gate_words.spaced_numbers.Goals as goal
 
@@ -19,7 +20,7 @@ loop-rest-preserved c =
 
 pub returns-in_err-behind-clause-none : goal.returns-in_err-behind-clause-none
 returns-in_err-behind-clause-none c =
-    let full = (Decides-eqb (length c.loop-rest.numbers.items) 66).0 (sym c.loop-rest-test.ensures.value) in
+    let full = (Decides-eqb (length c.loop-rest.numbers.items) MOST_NUMBERS).0 (sym c.loop-rest-test.ensures.value) in
     rw c.from_residual-in_err-behind.ensures (λ ns rest few words e. read-full c.args.bytes.now _ _ ns rest c.loop-rest.invariant c.in_err-behind.ensures (omega arith) words e)
 
 pub returns-clause-some : goal.returns-clause-some

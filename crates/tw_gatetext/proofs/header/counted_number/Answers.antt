@@ -17,11 +17,11 @@ pub returns-then-number-limit-clause-some : goal.returns-then-number-limit-claus
 returns-then-number-limit-clause-some c = (
   append-after c.args.limit.now.word.now c.args.bytes.now _ (sym c.in_ok-behind.ensures) ∙ ap (λ (t : List ℕ). c.args.limit.now.word.now ++ t) c.in_ok-number.ensures.some,
   c.if-least-number.true,
-  c.if-number-limit.true,
+  omega (arith, c.if-number-limit.true, c.limit.ensures),
 )
 
 pub returns-else-least-number-clause-none : goal.returns-else-least-number-clause-none
 returns-else-least-number-clause-none c = λ n rest some few is.
     let same : n ≡ c.in_ok-number.number =
     number_read c.args.limit.now.word.now c.args.bytes.now _ rest n c.in_ok-number.number _ c.in_ok-behind.ensures c.in_ok-number.ensures.some (omega (arith, c.requires)) (search rules) is in
-    elim c.else-least-number.branch [ else-least-number-via-then-least-number+else-number-limit w ↦ omega (arith, w.if-number-limit) | else-least-number-via-else-least-number w ↦ omega (arith, w.if-least-number) ]
+    elim c.else-least-number.branch [ else-least-number-via-then-least-number+else-number-limit w ↦ omega (arith, w.if-number-limit, w.limit.ensures) | else-least-number-via-else-least-number w ↦ omega (arith, w.if-least-number) ]

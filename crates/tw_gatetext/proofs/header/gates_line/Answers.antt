@@ -1,5 +1,5 @@
-use Rattle.std.proofs.Common.{codes, refl}
-use Rattle.tw_text.specs.declared.refusal.Counted.TheVariants as counted
+use Rattle.std.proofs.Common.{refl}
+use Rattle.tw_gatetext.specs.Refused.{gates_limit}
 use Rattle.tw_gatetext.specs.Lines.{AtGates}
 use Rattle.tw_gatetext.proofs.HeaderLines.{refused_limited, gates_steps, no_gates}
 use Rattle.tw_gatetext.proofs.header.gates_line.Goals as goal
@@ -10,5 +10,5 @@ returns-in-Some-clause-right c = λ level wires.
 
 pub returns-in-None-clause-refused : goal.returns-in-None-clause-refused
 returns-in-None-clause-refused c = λ level wires.
-    refused_limited (AtGates level wires) (record { word = codes "gates "; what = counted.Lines; most = 4194304 }) c.args.bytes.now c.refused_line.result tt refl
+    refused_limited (AtGates level wires) gates_limit c.args.bytes.now 4 c.refused_line.result tt refl
     (no_gates level wires c.args.bytes.now c.in-None.ensures.none) c.refused_line.ensures

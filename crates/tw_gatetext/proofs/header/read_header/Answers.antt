@@ -1,8 +1,9 @@
 use Rattle.std.proofs.Common.{ℕ, List, refl}
+use Rattle.std.proofs.lemmas.Result.{err_from_is_err_and}
 use Rattle.tw_gate.specs.declared.gate.Level.{Level}
 use Rattle.tw_gatetext.specs.Lines.{AtVersion, AtLevel, AtWires, AtGates, AtTCount, StepsTo, Reaches, Start, Line}
 use Rattle.tw_gatetext.specs.Refused.{WrongLine}
-use Rattle.tw_gatetext.proofs.HeaderLines.{refused_behind}
+use Rattle.tw_gatetext.proofs.HeaderLines.{refused_after}
 use Rattle.tw_gatetext.proofs.header.read_header.Goals as goal
 
 to_level : (bytes rest : List ℕ) → StepsTo AtVersion bytes AtLevel rest → Reaches bytes 1 AtLevel rest
@@ -26,23 +27,25 @@ returns-in_default-clause-refused c = WrongLine 0 AtVersion c.args.bytes.now Sta
 pub returns-in_default-level_line-clause-refused : goal.returns-in_default-level_line-clause-refused
 returns-in_default-level_line-clause-refused c = WrongLine 1 AtLevel _ (to_level c.args.bytes.now _ c.in-Some.ensures.some) c.in_default-level_line.ensures.none refl
 
-pub returns-in-Err-clause-refused : goal.returns-in-Err-clause-refused
-returns-in-Err-clause-refused c =
+pub returns-in_err-wires-clause-refused : goal.returns-in_err-wires-clause-refused
+returns-in_err-wires-clause-refused c =
+    let p = err_from_is_err_and c.from_residual.result c.from_residual.ensures.1 in
     let chain = to_wires c.args.bytes.now _ _ c.in-Some-level_line.level c.in-Some.ensures.some c.in-Some-level_line.ensures.some in
-    rw c.behind.ensures (refused_behind c.args.bytes.now 2 _ _ _ chain (c.in-Err.ensures.refused c.in-Some-level_line.level))
+    rw (p.1, p.2) (refused_after c.args.bytes.now 2 _ _ _ chain (c.in_err-wires.ensures.refused c.in-Some-level_line.level))
 
-pub returns-in-Err-gates_line-clause-refused : goal.returns-in-Err-gates_line-clause-refused
-returns-in-Err-gates_line-clause-refused c =
-    let chain = to_gates c.args.bytes.now _ _ _ c.in-Some-level_line.level _ c.in-Some.ensures.some c.in-Some-level_line.ensures.some c.in-Ok.ensures.right in
-    rw c.behind-in-Err-gates_line.ensures (refused_behind c.args.bytes.now 3 _ _ _ chain (c.in-Err-gates_line.ensures.refused c.in-Some-level_line.level _))
+pub returns-in_err-gates-clause-refused : goal.returns-in_err-gates-clause-refused
+returns-in_err-gates-clause-refused c =
+    let p = err_from_is_err_and c.from_residual-in_err-gates.result c.from_residual-in_err-gates.ensures.1 in
+    let chain = to_gates c.args.bytes.now _ _ _ c.in-Some-level_line.level _ c.in-Some.ensures.some c.in-Some-level_line.ensures.some c.in_ok-wires.ensures.right in
+    rw (p.1, p.2) (refused_after c.args.bytes.now 3 _ _ _ chain (c.in_err-gates.ensures.refused c.in-Some-level_line.level _))
 
 pub returns-in_default-t_count_line-clause-refused : goal.returns-in_default-t_count_line-clause-refused
 returns-in_default-t_count_line-clause-refused c =
-    WrongLine 4 _ _ (to_t_count c.args.bytes.now _ _ _ _ c.in-Some-level_line.level _ _ c.in-Some.ensures.some c.in-Some-level_line.ensures.some c.in-Ok.ensures.right c.in-Ok-gates_line.ensures.right)
+    WrongLine 4 _ _ (to_t_count c.args.bytes.now _ _ _ _ c.in-Some-level_line.level _ _ c.in-Some.ensures.some c.in-Some-level_line.ensures.some c.in_ok-wires.ensures.right c.in_ok-gates.ensures.right)
     (c.in_default-t_count_line.ensures.none _ _ _) refl
 
 pub returns-clause-read : goal.returns-clause-read
 returns-clause-read c =
     Line 4 _ _ _ _
-    (to_t_count c.args.bytes.now _ _ _ _ c.in-Some-level_line.level _ _ c.in-Some.ensures.some c.in-Some-level_line.ensures.some c.in-Ok.ensures.right c.in-Ok-gates_line.ensures.right)
+    (to_t_count c.args.bytes.now _ _ _ _ c.in-Some-level_line.level _ _ c.in-Some.ensures.some c.in-Some-level_line.ensures.some c.in_ok-wires.ensures.right c.in_ok-gates.ensures.right)
     (c.in-Some-t_count_line.ensures.some _ _ _)

@@ -1,5 +1,5 @@
-use Rattle.std.proofs.Common.{codes, refl}
-use Rattle.tw_text.specs.declared.refusal.Counted.TheVariants as counted
+use Rattle.std.proofs.Common.{refl}
+use Rattle.tw_gatetext.specs.Refused.{wires_limit}
 use Rattle.tw_gatetext.specs.Lines.{AtWires}
 use Rattle.tw_gatetext.proofs.HeaderLines.{refused_limited, wires_steps, no_wires}
 use Rattle.tw_gatetext.proofs.header.wires_line.Goals as goal
@@ -10,5 +10,5 @@ returns-in-Some-clause-right c = λ level.
 
 pub returns-in-None-clause-refused : goal.returns-in-None-clause-refused
 returns-in-None-clause-refused c = λ level.
-    refused_limited (AtWires level) (record { word = codes "wires "; what = counted.Wires; most = 1048576 }) c.args.bytes.now c.refused_line.result tt refl
+    refused_limited (AtWires level) wires_limit c.args.bytes.now 3 c.refused_line.result tt refl
     (no_wires level c.args.bytes.now c.in-None.ensures.none) c.refused_line.ensures
