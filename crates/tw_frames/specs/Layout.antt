@@ -57,6 +57,9 @@ wire_of_b = refl
 pub wire_of_c : wire_of one_bit [] main (codes "c") ≡ 4
 wire_of_c = refl
 
+pub wire_of_no_variable : wire_of one_bit [] main (codes "d") ≡ 5
+wire_of_no_variable = refl
+
 -- the same with addresses of 8 bits
 pub wide_layout_of_main : layout_of (record { word = 32; addr = 8 }) [] main ≡ record { args = 2048; out = 2050; scratch = 2051; wires = 2053 }
 wide_layout_of_main = refl

@@ -135,13 +135,13 @@ module _ (widths : Widths) (targets : List Target) where
       let one = value_bits-injective widths variable.ty all.0.0 also.0.0 all.0.2 also.0.2 (rw (all.0.1, also.0.1) at parts.0) in
       (all.0.1 ∙ (ap Some one ∙ sym also.0.1), variables_same store other variables more less all.1 also.1 parts.1)
 
-  module _ (variables : List Variable) (state other : State) (formed : IsWellFormed state) (formed_too : IsWellFormed other) (typed : IsTyped widths targets variables state) (typed_too : IsTyped widths targets variables other) where
+  module _ (variables : List Variable) (state other : State) (formed : IsWellFormed state) (other_formed : IsWellFormed other) (typed : IsTyped widths targets variables state) (other_typed : IsTyped widths targets variables other) where
     -- what is free in one state is free in the other
     free_in_other : state.head ≡ other.head → SameBits state.cells other.cells → (i next : ℕ) → slice_get state.cells i ≡ Some (Free next) → (link : ℕ) × (slice_get other.cells i ≡ Some (Free link))
     free_in_other head same i next at =
         let once = formed.once (suc i) next at in
-        free_too state.cells other.cells same typed.each_cell typed_too.each_cell (suc i) 0 other.head formed.chain formed_too.chain
-        (subst (λ a. Links state.cells a formed.chain) head formed.links) formed_too.links (omega (arith, once))
+        free_too state.cells other.cells same typed.each_cell other_typed.each_cell (suc i) 0 other.head formed.chain other_formed.chain
+        (subst (λ a. Links state.cells a formed.chain) head formed.links) other_formed.links (omega (arith, once))
 
     -- the heads are equal, the cells have the same bits, and the variables the same values
     record Parts : Type 0 where
@@ -154,23 +154,23 @@ module _ (widths : Widths) (targets : List Target) where
         let head = append-injective (number_bits widths.addr state.head) _ (number_bits widths.addr other.head) _
         (length-number_bits widths.addr state.head ∙ sym (length-number_bits widths.addr other.head))
         (sym (four_parts (number_bits widths.addr state.head) _ _ _) ∙ (same ∙ four_parts (number_bits widths.addr other.head) _ _ _)) in
-        let cells = cells_same state.cells other.cells _ _ typed.each_cell typed_too.each_cell (typed.all_blocks ∙ sym typed_too.all_blocks) head.1 in
+        let cells = cells_same state.cells other.cells _ _ typed.each_cell other_typed.each_cell (typed.all_blocks ∙ sym other_typed.all_blocks) head.1 in
         record {
-          head = number_bits-injective widths.addr state.head other.head (address_below widths state.head typed.head_within) (address_below widths other.head typed_too.head_within) head.0;
+          head = number_bits-injective widths.addr state.head other.head (address_below widths state.head typed.head_within) (address_below widths other.head other_typed.head_within) head.0;
           cells = cells.0;
-          values = variables_same state.store other.store variables _ _ typed.holds.each typed_too.holds.each cells.1;
+          values = variables_same state.store other.store variables _ _ typed.holds.each other_typed.holds.each cells.1;
         }
 
 -- the encoding is injective
 pub encoding-injective : (wires : ℕ) (widths : Widths) (targets : List Target) (variables : List Variable) → IsInjective wires widths targets variables
-encoding-injective wires widths targets variables state other formed formed_too typed typed_too same =
-    let one = parts widths targets variables state other formed formed_too typed typed_too wires same in
-    let back = parts widths targets variables other state formed_too formed typed_too typed wires (sym same) in
+encoding-injective wires widths targets variables state other formed other_formed typed other_typed same =
+    let one = parts widths targets variables state other formed other_formed typed other_typed wires same in
+    let back = parts widths targets variables other state other_formed formed other_typed typed wires (sym same) in
     record {
       head = one.head;
       cells =
-          cells_agree widths targets state.cells other.cells one.cells typed.each_cell typed_too.each_cell
-          (free_in_other widths targets variables state other formed formed_too typed typed_too one.head one.cells)
-          (free_in_other widths targets variables other state formed_too formed typed_too typed back.head back.cells);
-      store = fun_ext (λ name. one_store state.store other.store name variables one.values (λ apart. typed.holds.no_other name apart ∙ sym (typed_too.holds.no_other name apart)));
+          cells_agree widths targets state.cells other.cells one.cells typed.each_cell other_typed.each_cell
+          (free_in_other widths targets variables state other formed other_formed typed other_typed one.head one.cells)
+          (free_in_other widths targets variables other state other_formed formed other_typed typed back.head back.cells);
+      store = fun_ext (λ name. one_store state.store other.store name variables one.values (λ apart. typed.holds.no_other name apart ∙ sym (other_typed.holds.no_other name apart)));
     }

@@ -1,5 +1,5 @@
 -- The function that a syntax tree denotes; none where the tree has a node without semantics here yet.
-use Rattle.std.specs.Prelude.{◌≡◌, ℕ, true, List, [], ◌∷◌, Option, Some, None, option_map, codes, refl}
+use Rattle.std.specs.Prelude.{◌≡◌, ℕ, true, false, List, [], ◌∷◌, Option, Some, None, option_map, codes, refl}
 use Rattle.tw_text.specs.declared.place.Pos.{Pos}
 use Rattle.tw_syntax.specs.declared.term.OpKind.{OpKind}
 use Rattle.tw_syntax.specs.declared.term.OpKind.TheVariants as op
@@ -92,3 +92,7 @@ pub main_meant : (at : Pos) → function_meant (record {
   returned = record { text = codes "c"; at = at };
 }) ≡ Some main
 main_meant at = refl
+
+-- a backward `let` has no semantics here yet
+pub backward_let_denotes_nothing : (at : Pos) (target : NameTree) (rhs : RhsTree) → stmt_meant (tree.Then (tree.LetStmt at false target rhs) tree.Nothing) ≡ None
+backward_let_denotes_nothing at target rhs = refl

@@ -1,15 +1,15 @@
--- The encoding of a type's values is injective, and its bits are read and written part by part.
-use Rattle.std.proofs.Common.{◌≡◌, ◌∙◌, ℕ, zero, suc, ◌+◌, ◌^◌, ◌<◌, ◌≤◌, Bool, List, [], ◌∷◌, ◌++◌, length, take, drop, refl, ap, sym, arith}
-use Rattle.std.proofs.lemmas.List.{take-append-drop}
+-- The encoding of a type's values is bijective, and its bits are read and written part by part.
+use Rattle.std.proofs.Common.{◌≡◌, ◌∙◌, ℕ, zero, suc, ◌+◌, ◌^◌, ◌<◌, ◌≤◌, Bool, List, [], ◌∷◌, ◌++◌, length, take, drop, refl, ap, sym, arith, length-drop}
+use Rattle.std.proofs.lemmas.List.{take-append-drop, length-take-le}
 use Rattle.std.proofs.lemmas.Nat.{pow_pos}
 use Rattle.std.proofs.Math.Seq.{take-append_seam, drop-append_seam}
 use Rattle.tw_bits.specs.Lists.{bit_at}
-use Rattle.tw_bits.specs.Numbers.{number_bits}
+use Rattle.tw_bits.specs.Numbers.{number_bits, bits_number}
 use Rattle.tw_bits.specs.Writing.{written, taken}
-use Rattle.tw_bits.proofs.Laws.{bits_number-number_bits}
+use Rattle.tw_bits.proofs.Laws.{bits_number-number_bits, number_bits-bits_number, bits_number-lt}
 use Rattle.tw_bits.proofs.Writings.{written_two, taken_first, taken_second, number_of_bits}
 use Rattle.tw_types.specs.Types.{Widths, Ty, UnitTy, Word, Boolean, Pointer, PairTy, size, block_count}
-use Rattle.tw_types.specs.Values.{Value, UnitValue, Number, Truth, Address, PairValue, HasType, value_bits, IsDecoded}
+use Rattle.tw_types.specs.Values.{Value, UnitValue, Number, Truth, Address, PairValue, HasType, value_bits, IsDecoded, IsBijective}
 use Rattle.tw_types.proofs.Lengths.{length-value_bits}
 
 -- the addresses of blocks, with null, are the numbers of that width
@@ -57,6 +57,29 @@ decoded widths ty bits value typed encodes = record {
   encodes = encodes;
   only = λ other also same. value_bits-injective widths ty other value also typed (same ∙ sym encodes);
 }
+
+of_length : (width : ℕ) (bits : List Bool) → length bits ≡ width → number_bits width (bits_number bits) ≡ bits
+of_length width bits len = rw (← len) (number_bits-bits_number bits)
+
+-- each list of as many bits as the type has is the encoding of a value
+encoded_value : (widths : Widths) (ty : Ty) (bits : List Bool) → length bits ≡ size widths ty → (value : Value) × HasType widths value ty × (value_bits widths value ≡ bits)
+encoded_value widths UnitTy [] len = (UnitValue, tt, refl)
+encoded_value widths UnitTy (bit ∷ bits) len = absurd (omega (arith, len))
+encoded_value widths Word bits len = (Number (bits_number bits), (rw len at (bits_number-lt bits)), of_length widths.word bits len)
+encoded_value widths Boolean [] len = absurd (omega (arith, len))
+encoded_value widths Boolean (bit ∷ []) len = (Truth bit, tt, refl)
+encoded_value widths Boolean (bit ∷ next ∷ bits) len = absurd (omega (arith, len))
+encoded_value widths (Pointer target) bits len =
+    (Address (bits_number bits), address_within widths (bits_number bits) (rw len at (bits_number-lt bits)), of_length widths.addr bits len)
+encoded_value widths (PairTy first second) bits len =
+    let n = size widths first in
+    let x = encoded_value widths first (take n bits) (length-take-le n bits (omega (arith, len))) in
+    let y = encoded_value widths second (drop n bits) (rw length-drop (omega (arith, len))) in
+    (PairValue x.0 y.0, (x.1, y.1), rw (x.2, y.2) (take-append-drop n bits))
+
+pub bijective : (widths : Widths) (ty : Ty) → IsBijective widths ty
+bijective widths ty bits len =
+    let value = encoded_value widths ty bits len in (value.0, decoded widths ty bits value.0 value.1 value.2)
 
 -- one bit taken, as a list
 pub one_taken : (at : ℕ) (bits : List Bool) → at + 1 ≤ length bits → bit_at bits at ∷ [] ≡ taken at 1 bits

@@ -50,5 +50,8 @@ c_comes_last = refl
 pub b_is_a_word : defined 1 Word two ≡ record { written = 97 ∷ []; ty = Word } ∷ record { written = 98 ∷ []; ty = Word } ∷ []
 b_is_a_word = refl
 
+pub text_of_b : written_at two 1 ≡ Some (98 ∷ [])
+text_of_b = refl
+
 pub type_of_a : ty_at two 0 ≡ Some Word
 type_of_a = refl

@@ -1,7 +1,7 @@
 -- Values, which type they have, and the bits that encode them.
-use Rattle.std.specs.Prelude.{◌≡◌, ℕ, ◌^◌, ◌<◌, ◌≤◌, Bool, true, false, List, [], ◌∷◌, ◌++◌, refl}
+use Rattle.std.specs.Prelude.{◌≡◌, ℕ, ◌^◌, ◌<◌, ◌≤◌, Bool, true, false, List, [], ◌∷◌, ◌++◌, length, refl}
 use Rattle.tw_bits.specs.Numbers.{number_bits}
-use Rattle.tw_types.specs.Types.{Widths, Ty, UnitTy, Word, Boolean, Pointer, PairTy, block_count}
+use Rattle.tw_types.specs.Types.{Widths, Ty, UnitTy, Word, Boolean, Pointer, PairTy, size, block_count}
 
 -- a value: `()`, a number, a truth value, an address or a pair
 pub data Value : Type 0 where
@@ -45,6 +45,10 @@ pub record IsDecoded (widths : Widths) (ty : Ty) (bits : List Bool) (value : Val
   pub typed : HasType widths value ty
   pub encodes : value_bits widths value ≡ bits
   pub only : (other : Value) → HasType widths other ty → value_bits widths other ≡ bits → other ≡ value
+
+-- the encoding of a type is bijective: each list of as many bits as the type has encodes one value of it
+abbrev pub IsBijective : Widths → Ty → Type 0
+IsBijective widths ty = (bits : List Bool) → length bits ≡ size widths ty → (value : Value) × IsDecoded widths ty bits value
 
 -- `(6, (true, &2))` in words of three bits and addresses of two
 pub six_true_and_block_2 :

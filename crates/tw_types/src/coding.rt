@@ -3,7 +3,7 @@ ghost use Rattle.std.specs.Prelude.{◌≡◌, ◌≤◌, ◌<◌, ◌+◌, ◌^
 ghost use Rattle.tw_bits.specs.Numbers.{number_bits};
 ghost use Rattle.tw_types.specs.Types.{size};
 ghost use Rattle.tw_bits.specs.Writing.{taken, written};
-ghost use Rattle.tw_types.specs.Values.{HasType, IsDecoded, value_bits};
+ghost use Rattle.tw_types.specs.Values.{HasType, IsBijective, IsDecoded, value_bits};
 ghost use Rattle.tw_types.specs.FromCode.{ty_of, value_of};
 
 use crate::types::Ty;
@@ -99,7 +99,7 @@ fn value_at(
 /// The one value of a type whose bits stand from `at` on: the least bit of a number or an address first, 1 for `true`, and
 /// the first half of a pair before the second. Each list of bits is that of a value. The bits lie within the list.
 /// An error: there is no memory for it.
-#[tactic(auto, using(crate::proofs::Encoding::decoded))]
+#[tactic(auto, using(crate::proofs::Encoding::decoded, crate::proofs::Encoding::bijective))]
 pub fn decode_from(
     alloc: Global,
     ty: &Ty,
@@ -108,8 +108,9 @@ pub fn decode_from(
     at: usize,
 ) -> Result<Val, AllocError>
     requires within { at + size widths (ty_of ty.now) ≤ length bits.now }
-    ensures { IfOk result (λ val.
+    ensures value { IfOk result (λ val.
         IsDecoded widths (ty_of ty.now) (taken at (size widths (ty_of ty.now)) bits.now) (value_of val)) }
+    ensures bijective { IsBijective widths (ty_of ty.now) }
 {
     // The length is a `usize`, so no place overflows.
     prove!(at <= bits.len());

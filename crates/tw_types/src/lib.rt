@@ -1,6 +1,5 @@
 //! Types and values: their sizes and zeros, the bits that encode them, and the table of the targets of pointers.
-//! The definitions of `specs/` say which values a type has and which bits encode them; `proofs/` shows that the encoding of
-//! each type is injective.
+//! The definitions of `specs/` say which values a type has and which bits encode them. The encoding of each type is bijective.
 #![tactic(auto)]
 
 mod coding;
