@@ -1,9 +1,9 @@
 -- How the pieces of a line and of a file join.
-use Rattle.std.proofs.Common.{◌≡◌, ◌∙◌, ℕ, List, [], ◌∷◌, ◌++◌, length, decimal, codes, Option, Result, Ok, Err, refl, arith, append_assoc, append-nil}
+use Rattle.std.proofs.Common.{◌≡◌, ◌∙◌, ℕ, List, [], ◌∷◌, ◌++◌, length, decimal, codes, Option, Result, Ok, Err, refl, append_assoc, append-nil}
 use Rattle.std.specs.List.{AllByRecursion}
 use Rattle.tw_io.specs.declared.device.WriteFault.{WriteFault}
 use Rattle.tw_io.specs.Devices.{Wrote}
-use Rattle.tw_io.proofs.Devices.{wrote_then, wrote_prefix, wrote_none, appends_nothing}
+use Rattle.tw_io.proofs.Devices.{wrote_then, wrote_prefix, wrote_none}
 use Rattle.tw_gate.specs.Gates.{PlainGate, X}
 use Rattle.tw_gatetext.specs.declared.file.GateFile.{GateFile}
 use Rattle.tw_gatetext.specs.Files.{plain_file}

@@ -1,5 +1,5 @@
 -- A gate line as letters and the numbers behind them.
-use Rattle.std.specs.Prelude.{ℕ, List, [], ◌∷◌, ◌++◌, length, codes}
+use Rattle.std.specs.Prelude.{◌≡◌, ℕ, List, [], ◌∷◌, ◌++◌, length, codes, refl}
 use Rattle.tw_gate.specs.Gates.{PlainGate, X, H, T, Tdg}
 
 -- the letters that begin a gate's line
@@ -21,3 +21,9 @@ numbers_of (X (a ∷ b ∷ c ∷ rest) target) = length (a ∷ b ∷ c ∷ rest)
 numbers_of (H wire) = wire ∷ []
 numbers_of (T wire) = wire ∷ []
 numbers_of (Tdg wire) = wire ∷ []
+
+pub letters-three_controls : letters (X (0 ∷ 1 ∷ 2 ∷ []) 3) ≡ codes "mcx"
+letters-three_controls = refl
+
+pub numbers_of-three_controls : numbers_of (X (0 ∷ 1 ∷ 2 ∷ []) 3) ≡ 3 ∷ 0 ∷ 1 ∷ 2 ∷ 3 ∷ []
+numbers_of-three_controls = refl

@@ -19,11 +19,10 @@ const MOST_NUMBERS: usize = CONTROLS_LIMIT as usize + 2;
 /// The numbers of a line.
 pub type Numbers = ArrayVec<u32, MOST_NUMBERS>;
 
-/// A gate line: its letters, its numbers, and what follows the line.
-#[derive(Drop)]
+/// A gate line: its letters, and what follows the line.
+#[derive(Clone, Copy)]
 pub struct LineWords<'b> {
     pub letters: &'b [u8],
-    pub numbers: Numbers,
     pub rest: &'b [u8],
 }
 
@@ -47,40 +46,36 @@ fn spaced_number(bytes: &[u8]) -> Option<(u32, &[u8])>
     Some((u32::try_from(number).ok()?, rest))
 }
 
-/// The numbers up to the end of the line, each after a space, and what follows the line.
-fn spaced_numbers(bytes: &[u8]) -> Option<(Numbers, &[u8])>
-    ensures some { IfSome result (λ found. bytes.now ≡ spaced found.0.items ++ (codes "\n" ++ found.1.now)) }
-    ensures few { IfSome result (λ found. length found.0.items ≤ MOST_NUMBERS) }
-    ensures small { IfSome result (λ found. AllByRecursion (λ n. n < 2 ^ 32) found.0.items) }
+/// Reads the numbers up to the end of the line, each after a space, and gives what follows the line. What the buffer held is lost.
+fn spaced_numbers<'b>(bytes: &'b [u8], numbers: &mut Numbers) -> Option<&'b [u8]>
+    ensures some { IfSome result (λ rest. bytes.now ≡ spaced numbers.new.items ++ (codes "\n" ++ rest.now)) }
+    ensures few { IfSome result (λ rest. length numbers.new.items ≤ MOST_NUMBERS) }
+    ensures small { IfSome result (λ rest. AllByRecursion (λ n. n < 2 ^ 32) numbers.new.items) }
     ensures none { IfNone result ((ns rest : List ℕ) → length ns ≤ MOST_NUMBERS → AllByRecursion (λ n. n < 2 ^ 32) ns → ¬ (bytes.now ≡ spaced ns ++ (codes "\n" ++ rest))) }
 {
-    let mut numbers = Numbers::new();
+    numbers.clear();
     let mut rest = bytes;
     while !numbers.is_full() {
         if let Some(behind) = after(rest, b"\n") {
-            return Some((numbers, behind));
+            return Some(behind);
         }
         let (number, behind) = spaced_number(rest)?;
         numbers.push(number);
         rest = behind;
     }
     let behind = after(rest, b"\n")?;
-    Some((numbers, behind))
+    Some(behind)
 }
 
-/// The gate line at the front, as letters and numbers.
-pub fn line_words(bytes: &[u8]) -> Option<LineWords<'_>>
-    ensures some { IfSome result (λ words. HasNoSpace words.letters.now × IsLineOf bytes.now words.letters.now words.numbers.items words.rest.now) }
-    ensures numbers { IfSome result (λ words. AreLineNumbers words.numbers.items) }
+/// Reads the gate line at the start, as letters and numbers. What the buffer of the numbers held is lost.
+pub fn line_words<'b>(bytes: &'b [u8], numbers: &mut Numbers) -> Option<LineWords<'b>>
+    ensures some { IfSome result (λ words. HasNoSpace words.letters.now × IsLineOf bytes.now words.letters.now numbers.new.items words.rest.now) }
+    ensures numbers { IfSome result (λ words. AreLineNumbers numbers.new.items) }
     ensures none { IfNone result ((word ns rest : List ℕ) → HasNoSpace word → AreLineNumbers ns → ¬ IsLineOf bytes.now word ns rest) }
 {
     let (letters, behind) = word_at(bytes)?;
-    let (numbers, rest) = spaced_numbers(behind)?;
-    Some(LineWords {
-        letters,
-        numbers,
-        rest,
-    })
+    let rest = spaced_numbers(behind, numbers)?;
+    Some(LineWords { letters, rest })
 }
 
 /// The X gate of so many controls whose wires these are, the target last.

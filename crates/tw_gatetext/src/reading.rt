@@ -16,7 +16,7 @@ ghost use Rattle.tw_gatetext.specs.declared.file.GateFault.TheVariants as fault;
 
 use crate::file::{GateFault, GateFile};
 use crate::gate_fits::{fits_level, fits_wires};
-use crate::gate_words::{LineWords, gate_of, line_words};
+use crate::gate_words::{Numbers, gate_of, line_words};
 use crate::header::{Header, read_header};
 use crate::line_fault::{NumberLimit, refused_line};
 use itoa::Buffer;
@@ -41,14 +41,14 @@ fn refused_gate_line(level: Level, line: u32, bytes: &[u8]) -> GateFault
     }
 }
 
-/// The gate of a line, if it fits a file with this header.
-fn right_gate<'w>(header: &Header, words: &'w LineWords) -> Option<Gate<'w>>
+/// The gate of a line of this word and these numbers, if it fits a file with this header.
+fn right_gate<'n>(header: &Header, word: &[u8], numbers: &'n Numbers) -> Option<Gate<'n>>
     ensures some { IfSome result (λ gate. FitsLevel header.now.level (plain gate) × FitsWires header.now.wires (plain gate)
-        × (words.now.letters.now ≡ letters (plain gate)) × (words.now.numbers.items ≡ numbers_of (plain gate))) }
+        × (word.now ≡ letters (plain gate)) × (numbers.now.items ≡ numbers_of (plain gate))) }
     ensures none { IfNone result ((gate : PlainGate) → FitsLevel header.now.level gate → FitsWires header.now.wires gate
-        → words.now.letters.now ≡ letters gate → ¬ (words.now.numbers.items ≡ numbers_of gate)) }
+        → word.now ≡ letters gate → ¬ (numbers.now.items ≡ numbers_of gate)) }
 {
-    let gate = gate_of(words.letters, &words.numbers)?;
+    let gate = gate_of(word, numbers)?;
     if fits_level(header.level, &gate) && fits_wires(header.wires, &gate) {
         Some(gate)
     } else {
@@ -57,10 +57,12 @@ fn right_gate<'w>(header: &Header, words: &'w LineWords) -> Option<Gate<'w>>
 }
 
 /// Takes the gate line of this number: appends its gate to the list, and gives the T-count of the gate and what follows the line.
+/// What the buffer of the line's numbers held is lost.
 fn take_gate<'b>(
     header: &Header,
     line: u32,
     bytes: &'b [u8],
+    numbers: &mut Numbers,
     gates: &mut GateList,
 ) -> Result<(u64, &'b [u8]), GateFault>
     requires few_wires { header.now.wires ≤ WIRES_LIMIT }
@@ -69,10 +71,10 @@ fn take_gate<'b>(
     ensures taken { IfOk result (λ taken. (gate : PlainGate) × (gates.new ≡ gates.old ++ gate ∷ []) × (taken.0 ≡ gate_weight gate) × HasFewControls gate) }
     ensures refused { IfErr result (λ why. (why ≡ fault.Memory) ⊎ IsRefusedLine (InBody (head_seen header.now) gates.old) bytes.now line why) }
 {
-    let Some(words) = line_words(bytes) else {
+    let Some(words) = line_words(bytes, numbers) else {
         return Err(refused_gate_line(header.level, line, bytes));
     };
-    let Some(gate) = right_gate(header, &words) else {
+    let Some(gate) = right_gate(header, words.letters, numbers) else {
         return Err(refused_gate_line(header.level, line, bytes));
     };
     match gates.push(&gate) {
@@ -100,10 +102,11 @@ fn read_body<'b>(alloc: Global, header: &Header, bytes: &'b [u8]) -> Result<Body
         → (why ≡ fault.Memory) ⊎ IsRefusedText all why) }
 {
     let mut gates = GateList::new(alloc);
+    let mut numbers = Numbers::new();
     let mut t_count = 0;
     let mut rest = bytes;
     for lines in 0..header.gates {
-        let (weight, behind) = take_gate(header, 6 + lines, rest, &mut gates)?;
+        let (weight, behind) = take_gate(header, 6 + lines, rest, &mut numbers, &mut gates)?;
         t_count += weight;
         rest = behind;
     }

@@ -33,9 +33,22 @@ pub fn write_gate<K: Sink>(sink: &mut K, gate: &Gate) -> Result<(), WriteFault>
     requires { HasFewControls (plain gate.now) }
     ensures wrote { Wrote K.taken K.faults sink.old sink.new result (line (plain gate.now)) }
 {
-    let mut text = pieces::Line::new();
-    pieces::push_line(&mut text, gate);
-    write_all(sink, text.as_str().as_bytes())
+    let mut buffer = pieces::Line::new();
+    write_line(sink, &mut buffer, gate)
+}
+
+/// Writes the line of a gate as one piece. What the buffer held is lost.
+fn write_line<K: Sink>(
+    sink: &mut K,
+    buffer: &mut pieces::Line,
+    gate: &Gate,
+) -> Result<(), WriteFault>
+    requires { HasFewControls (plain gate.now) }
+    ensures wrote { Wrote K.taken K.faults sink.old sink.new result (line (plain gate.now)) }
+{
+    buffer.clear();
+    pieces::push_line(buffer, gate);
+    write_all(sink, buffer.as_str().as_bytes())
 }
 
 /// Writes the last line.
@@ -71,8 +84,9 @@ fn write_listed<K: Sink>(sink: &mut K, gates: &GateList) -> Result<(), WriteFaul
     requires { AllByRecursion HasFewControls gates.now }
     ensures wrote { Wrote K.taken K.faults sink.old sink.new result (lines gates.now) }
 {
+    let mut buffer = pieces::Line::new();
     for place in 0..gates.len() {
-        write_gate(sink, &gates.gate(place))?;
+        write_line(sink, &mut buffer, &gates.gate(place))?;
     }
     Ok(())
 }

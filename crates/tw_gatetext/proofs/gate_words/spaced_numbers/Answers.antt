@@ -5,7 +5,7 @@ use Rattle.tw_gatetext.proofs.SpacedNumbers.{read-start, read-more, read-whole, 
 use Rattle.tw_gatetext.proofs.gate_words.spaced_numbers.Goals as goal
 
 pub loop-rest-init : goal.loop-rest-init
-loop-rest-init c = read-start c.args.bytes.now _ c.new-numbers.ensures
+loop-rest-init c = read-start c.args.bytes.now _ c.clear.ensures
 
 pub returns-in-Some-clause-some : goal.returns-in-Some-clause-some
 returns-in-Some-clause-some c = read-whole c.args.bytes.now _ _ _ c.loop-rest.invariant c.in-Some.ensures
