@@ -4,11 +4,12 @@ use Rattle.std.proofs.Math.Nat.{pow-le-pow_right}
 use Rattle.std.proofs.lemmas.Nat.{mul-le}
 use Rattle.std.specs.List.{AllByRecursion}
 use Rattle.tw_gate.specs.Weight.{t_count}
-use Rattle.tw_types.specs.Types.{Widths, Boolean, Target}
+use Rattle.tw_types.specs.Types.{Widths, Boolean, Target, size}
 use Rattle.tw_state.specs.States.{Name}
 use Rattle.tw_state.specs.Programs.{Function}
 use Rattle.tw_state.specs.Typing.{variables_at_end}
-use Rattle.tw_frames.specs.Layout.{scratch_size, layout_of, wire_of}
+use Rattle.tw_frames.specs.declared.regions.WireLayout.{WireLayout}
+use Rattle.tw_frames.specs.Layout.{scratch_size, regions, layout_of, wire_of}
 use Rattle.tw_frames.specs.Cost.{cost}
 use Rattle.tw_frames.proofs.Wires.{AreBoolean, size-truth, variables_size-length, wire_from-within}
 use Rattle.tw_lower.specs.Circuits.{function_gates}
@@ -19,6 +20,15 @@ use Rattle.tw_lower.proofs.Implemented.{all_last, function_gates-conjunction}
 all_before : {X : Type 0} (P : X → Type 0) (xs : List X) (x : X) → AllByRecursion P (xs ++ x ∷ []) → AllByRecursion P xs
 all_before P [] x all = tt
 all_before P (other ∷ xs) x all = (all.0, all_before P xs x all.1)
+
+-- the layout of such a function without targets, if all its variables are truth values
+pub layout-conjunction : (widths : Widths) {function : Function} {left right : Name} → IsConjunction function left right → AreBoolean (variables_at_end function) → layout_of widths [] function ≡ regions widths widths.addr (length function.parameters) 1 2
+layout-conjunction widths {function} is booleans =
+    let parameters = all_before (λ variable. variable.ty ≡ Boolean) function.parameters function.result booleans in
+    let result = all_last (λ variable. variable.ty ≡ Boolean) function.parameters function.result booleans in
+    ap (λ (n : ℕ). regions widths widths.addr n (size widths function.result.ty) (scratch_size function.body)) (variables_size-length widths function.parameters parameters)
+    ∙ ap (λ (n : ℕ). regions widths widths.addr (length function.parameters) n (scratch_size function.body)) (size-truth widths result)
+    ∙ ap (λ (n : ℕ). regions widths widths.addr (length function.parameters) 1 n) (ap scratch_size is.body)
 
 -- where the variables lie, without targets
 pub record Places (widths : Widths) (function : Function) (left right : Name) : Type 0 where
@@ -36,14 +46,15 @@ pub places : (widths : Widths) {function : Function} {left right : Name} → IsC
 places widths {function} {left} {right} is booleans =
     let layout = layout_of widths [] function in
     let parameters = all_before (λ variable. variable.ty ≡ Boolean) function.parameters function.result booleans in
-    let one = size-truth widths (all_last (λ variable. variable.ty ≡ Boolean) function.parameters function.result booleans) in
+    let same = layout-conjunction widths is booleans in
+    let out = ap (λ (l : WireLayout). l.out) same in
     let left_within = wire_from-within widths (function.result ∷ []) left function.parameters parameters is.left_known layout.args in
     let right_within = wire_from-within widths (function.result ∷ []) right function.parameters parameters is.right_known layout.args in
     record {
       arguments_at = refl;
-      result_at = ap (λ (n : ℕ). layout.args + n) (variables_size-length widths function.parameters parameters);
-      scratch_at = ap (λ (n : ℕ). layout.out + n) one;
-      wires_at = omega (arith, one, ap scratch_size is.body);
+      result_at = out;
+      scratch_at = omega (arith, out, ap (λ (l : WireLayout). l.scratch) same);
+      wires_at = omega (arith, out, ap (λ (l : WireLayout). l.wires) same);
       left_from = left_within.0;
       left_below = left_within.1;
       right_from = right_within.0;

@@ -1,6 +1,6 @@
 -- Types and targets as lists of numbers that determine them, which a struct needs if its value is a list of targets.
 use Rattle.std.specs.Prelude.{◌≡◌, ℕ, zero, suc, List, [], ◌∷◌, ◌++◌, fold, refl}
-use Rattle.std.proofs.Common.{ap}
+use Rattle.std.proofs.Common.{◌∙◌, ap}
 use Rattle.std.proofs.lemmas.List.Sums.{fold-append}
 use Rattle.std.specs.Coded.{Coded, code_by, coded×, coded_ℕ, coded_list}
 use Rattle.tw_types.specs.Types.{Ty, UnitTy, Word, Boolean, Pointer, PairTy, Target}
@@ -27,6 +27,13 @@ abbrev pub top : List Ty → Ty
 top [] = UnitTy
 top (ty ∷ stack) = ty
 
+-- `(uint, ptr<..>)` is 1 4 3, and read back from there
+pub postfix_of_item : postfix (PairTy Word (Pointer 0)) ≡ 1 ∷ 4 ∷ 3 ∷ []
+postfix_of_item = refl
+
+pub item_read_back : top (fold push [] (1 ∷ 4 ∷ 3 ∷ [])) ≡ PairTy Word (Pointer 0)
+item_read_back = refl
+
 -- the numbers of a type push it
 pub pushed : (ty : Ty) (stack : List Ty) → fold push stack (postfix ty) ≡ ty ∷ stack
 pushed UnitTy stack = refl
@@ -34,7 +41,10 @@ pushed Word stack = refl
 pushed Boolean stack = refl
 pushed (Pointer target) stack = refl
 pushed (PairTy first second) stack =
-    rw (fold-append push stack (postfix first), pushed first stack, fold-append push (first ∷ stack) (postfix second), pushed second (first ∷ stack)) refl
+    fold-append push stack (postfix first) (postfix second ++ 3 ∷ [])
+    ∙ ap (λ (made : List Ty). fold push made (postfix second ++ 3 ∷ [])) (pushed first stack)
+    ∙ fold-append push (first ∷ stack) (postfix second) (3 ∷ [])
+    ∙ ap (λ (made : List Ty). fold push made (3 ∷ [])) (pushed second (first ∷ stack))
 
 -- the code of targets
 abbrev pub target_code : Coded Target

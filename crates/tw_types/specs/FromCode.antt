@@ -34,3 +34,6 @@ ty_of-pointer = refl
 
 pub value_of-truth : value_of (val.B true) ≡ Truth true
 value_of-truth = refl
+
+pub target_of-bool : (text : Bor (List ℕ)) → target_of (text, ty.Bool) ≡ record { written = text.now; ty = Boolean }
+target_of-bool text = refl
