@@ -1,5 +1,5 @@
 -- The first character of a piece tells its sort.
-use Rattle.std.proofs.Common.{◌≡◌, ◌≢◌, ◌∙◌, sym, ℕ, ◌<◌, ◌≤◌, ◌==◌, Bool, true, false, ◌||◌, if◌then◌else◌, List, [], ◌∷◌, length, decimal, refl, arith}
+use Rattle.std.proofs.Common.{◌≡◌, ◌≢◌, ◌∙◌, sym, ℕ, ◌<◌, ◌≤◌, ◌==◌, Bool, true, false, ◌||◌, if◌then◌else◌, List, [], ◌∷◌, length, decimal, refl, ap, arith}
 use Rattle.std.proofs.lemmas.Bool.{and_parts}
 use Rattle.std.specs.List.{list_all}
 use Rattle.std.specs.Char.{is_ascii_digit, is_ascii_alphabetic}
@@ -11,8 +11,10 @@ use Rattle.std.proofs.lemmas.Fmt.{digits_decimal, decimal_nonempty}
 use Rattle.unicode_ident.specs.Ident.{is_xid_start, is_xid_continue}
 use Rattle.unicode_ident.proofs.Computing.{unicode_ident}
 use Rattle.unicode_ident.proofs.IdentLemmas.{is_xid_start-ascii, is_xid_continue-ascii}
-use Rattle.tw_lex.specs.Marks.{marks, is_among}
-use Rattle.tw_lex.specs.Tokens.{Piece, Blank, Comment, Letters, Digits, Sign, piece_text, is_blank, starts_name, Stands, Ends}
+use Rattle.tw_lex.specs.declared.symbol.Symbol.{Symbol}
+use Rattle.tw_lex.specs.declared.symbol.Symbol.TheVariants as symbols
+use Rattle.tw_lex.specs.Symbols.{symbol_text, is_keyword, starts_with}
+use Rattle.tw_lex.specs.Tokens.{Piece, Blank, Comment, Letters, Digits, Operator, piece_text, is_blank, starts_name, Stands, Ends}
 
 -- the sort of a piece
 abbrev pub sort : Piece → ℕ
@@ -20,7 +22,7 @@ sort (Blank c) = 0
 sort (Comment cs) = 1
 sort (Letters c cs) = 2
 sort (Digits value) = 3
-sort (Sign cs) = 4
+sort (Operator symbol) = 4
 
 -- and the sort of a piece that begins with a character
 unfoldable pub class : ℕ → ℕ
@@ -40,7 +42,7 @@ class-name : (c : ℕ) → starts_name c ≡ true → class c ≡ 2
 unfolding unicode_ident class
 class-name c name = rw (no_name c 32 name refl, no_name c 9 name refl, no_name c 13 name refl, no_name c 10 name refl, no_name c 47 name refl, name) refl
 
-apart : (c d : ℕ) → c ≢ d → (c == d) ≡ false
+pub apart : (c d : ℕ) → c ≢ d → (c == d) ≡ false
 apart c d other = elim (c == d) as (λ k. ((k ≡ true) → c ≡ d) → k ≡ false) [ true ↦ λ f. absurd (other (f refl)) | false ↦ λ f. refl ] (Decides-eqb c d).0
 
 pub digit_bounds : (c : ℕ) → is_ascii_digit c ≡ true → (48 ≤ c) × (c < 58)
@@ -49,7 +51,7 @@ digit_bounds c digit = (grind (arith, nat_tests), grind (arith, nat_tests))
 no_letter : (c : ℕ) → 48 ≤ c → c < 58 → is_ascii_alphabetic c ≡ false
 no_letter c low high = grind (arith, nat_tests)
 
-class-digit : (c : ℕ) → is_ascii_digit c ≡ true → class c ≡ 3
+pub class-digit : (c : ℕ) → is_ascii_digit c ≡ true → class c ≡ 3
 unfolding class
 class-digit c digit =
     let bounds = digit_bounds c digit in
@@ -57,6 +59,15 @@ class-digit c digit =
     let high = bounds.1 in
     let no_start : is_xid_start c ≡ false = is_xid_start-ascii c (omega arith) ∙ no_letter c low high in
     rw (apart c 32 (omega arith), apart c 9 (omega arith), apart c 13 (omega arith), apart c 10 (omega arith), apart c 47 (omega arith), no_start, apart c 95 (omega arith), digit) refl
+
+-- and no other character is of their class
+other_class : (blank slash : Bool) (k : ℕ) → k ≡ (if blank then 0 else (if slash then 1 else 4)) → k ≡ 3 → ⊥
+other_class true slash k is e = omega arith
+other_class false true k is e = omega arith
+other_class false false k is e = omega arith
+
+pub no_class_digit : (c : ℕ) → starts_name c ≡ false → is_ascii_digit c ≡ false → class c ≡ 3 → ⊥
+no_class_digit c letter digit is = other_class (is_blank c) (c == 47) (class c) (class_by_tests c (is_blank c) (c == 47) false false refl refl letter digit) is
 
 -- what goes on with no letter goes on with no digit
 digit_continues : (c : ℕ) → is_xid_continue c ≡ false → is_ascii_digit c ≡ false
@@ -66,24 +77,6 @@ digit_continues c none =
 pub ends-digits : (rest : List ℕ) → Ends is_xid_continue rest → Ends is_ascii_digit rest
 ends-digits [] ends = refl
 ends-digits (c ∷ rest) ends = digit_continues c ends
-
--- whether a mark's first character is of their class
-abbrev heads_mark : List ℕ → Bool
-heads_mark [] = false
-heads_mark (c ∷ cs) = class c == 4
-
-marks_head : list_all heads_mark marks ≡ true
-unfolding unicode_ident class
-marks_head = refl
-
-head_among : (cs : List ℕ) (texts : List (List ℕ)) → list_all heads_mark texts ≡ true → is_among cs texts ≡ true → heads_mark cs ≡ true
-head_among cs [] all among = cc
-head_among cs (text ∷ texts) all among =
-    let parts = and_parts (heads_mark text) (list_all heads_mark texts) all in
-    elim (bytes_eq text cs) as (λ k. (bytes_eq text cs ≡ k) → (k || is_among cs texts) ≡ true → heads_mark cs ≡ true) [
-      | true ↦ λ same h. rw (← (bytes_eq-Decides text cs).0 same) parts.0
-      | false ↦ λ same h. head_among cs texts parts.1 h
-    ] refl among
 
 -- a piece that stands begins with a character of its sort
 pub record Heads (piece : Piece) : Type 0 where
@@ -96,9 +89,21 @@ heads-digits : (value : ℕ) (text : List ℕ) → text ≡ decimal value → al
 heads-digits value [] is digits some = absurd (omega arith)
 heads-digits value (c ∷ cs) is digits some = record { c = c; cs = cs; text = sym is; sorted = class-digit c (and_parts (is_ascii_digit c) (all_ascii_digits cs) digits).0 }
 
-heads-mark : (cs : List ℕ) → heads_mark cs ≡ true → Heads (Sign cs)
-heads-mark [] mark = cc
-heads-mark (c ∷ cs) mark = record { c = c; cs = cs; text = refl; sorted = (Decides-eqb (class c) 4).0 mark }
+-- an operator's first character is of their class
+abbrev heads_operator : Symbol → Bool
+heads_operator symbol = is_keyword symbol || starts_with (λ c. class c == 4) (symbol_text symbol)
+
+all_head : (symbol : Symbol) → heads_operator symbol ≡ true
+unfolding unicode_ident class
+all_head symbols.Swap = refl
+all_head symbol = refl
+
+heads-text : (symbol : Symbol) (text : List ℕ) → text ≡ symbol_text symbol → starts_with (λ c. class c == 4) text ≡ true → Heads (Operator symbol)
+heads-text symbol [] is h = absurd (cc)
+heads-text symbol (c ∷ cs) is h = record { c = c; cs = cs; text = sym is; sorted = (Decides-eqb (class c) 4).0 h }
+
+heads-operator : (symbol : Symbol) → is_keyword symbol ≡ false → Heads (Operator symbol)
+heads-operator symbol none = heads-text symbol (symbol_text symbol) refl (ap (λ k. k || starts_with (λ c. class c == 4) (symbol_text symbol)) (sym none) ∙ all_head symbol)
 
 class-blank : (c : ℕ) → is_blank c ≡ true → class c ≡ 0
 unfolding class
@@ -114,4 +119,4 @@ heads (Comment cs) rest stands = record { c = 47; cs = 47 ∷ cs; text = refl; s
 heads (Letters c cs) rest stands = record { c = c; cs = cs; text = refl; sorted = class-name c stands.0 }
 heads (Digits value) rest stands =
     heads-digits value (decimal value) refl (digits_decimal (numerals_by_value _ tells_all_ascii_digits) value stands.0) (decimal_nonempty value stands.0)
-heads (Sign cs) rest stands = heads-mark cs (head_among cs marks marks_head stands.0)
+heads (Operator symbol) rest stands = heads-operator symbol stands.0

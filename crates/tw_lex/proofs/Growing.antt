@@ -1,43 +1,91 @@
--- One more piece behind the pieces of a text.
-use Rattle.std.proofs.Common.{◌≡◌, ◌∙◌, ap, sym, ℕ, ◌<◌, List, [], ◌∷◌, ◌++◌, append_assoc, length, Option, refl, arith, length-append}
+-- Pieces after the pieces of a text.
+use Rattle.std.proofs.Common.{◌≡◌, ◌≢◌, ◌∙◌, ap, sym, subst, ℕ, ◌+◌, ◌<◌, ◌==◌, true, false, List, [], ◌∷◌, ◌++◌, append_assoc, length, length-append, codes, Option, Some, None, refl, arith}
 use mathlib.Core.List.{append-nil}
-use Rattle.std.specs.Str.{chars}
+use Rattle.std.specs.List.{list_all, AllByRecursion}
+use Rattle.std.specs.Str.{chars, IsUtf8}
 use Rattle.std.proofs.lemmas.List.{append_cancel_right}
 use Rattle.tw_text.specs.declared.place.Pos.{Pos}
 use Rattle.tw_text.specs.Places.{after_chars}
+use Rattle.tw_text.specs.Cuts.{Begins, Follows}
 use Rattle.tw_lex.specs.declared.token.TokenKind.{TokenKind}
-use Rattle.tw_lex.specs.Tokens.{Tok, Piece, piece_text, piece_tokens, token_of, Stands, Splits}
-use Rattle.tw_lex.specs.Scans.{Found, SplitsTo}
-use Rattle.tw_lex.proofs.Classes.{heads}
+use Rattle.tw_lex.specs.Tokens.{Lexeme, Lexed, Piece, Blank, Comment, piece_text, piece_lexeme, piece_tokens, token_of, is_blank, is_in_line, Ends, Stands, Splits, HasTokens, StopsAt}
+use Rattle.tw_lex.specs.Scans.{Found, Lacks, RunsTo, SplitsTo, lexeme_of, IsKind}
+use Rattle.tw_lex.proofs.Classes.{heads, apart}
+use Rattle.tw_lex.proofs.Lines.{after_line}
+use Rattle.tw_lex.proofs.Pieces.{chars-slashes}
 
-snoc : (ps : List Piece) (p : Piece) (cs rest mid : List ℕ) (at end : Pos) (toks : List Tok) → Splits ps cs at toks rest end → rest ≡ piece_text p ++ mid → Stands p mid
-    → Splits (ps ++ p ∷ []) cs at (toks ++ piece_tokens p end) mid (after_chars end (piece_text p))
-snoc [] p cs rest mid at end toks s e stands =
-    (mid, [], s.0 ∙ e, stands, ap (λ x. x ++ piece_tokens p end) s.1 ∙ ap (piece_tokens p) (sym s.2) ∙ sym (append-nil (piece_tokens p at)), (refl, refl, ap (λ x. after_chars x (piece_text p)) s.2))
-snoc (q ∷ ps) p cs rest mid at end toks s e stands = (
-  s.0,
-  s.1 ++ piece_tokens p end,
-  s.2,
-  s.3,
-  ap (λ x. x ++ piece_tokens p end) s.4 ∙ append_assoc (piece_tokens q at) s.1 (piece_tokens p end),
-  snoc ps p s.0 rest mid (after_chars at (piece_text q)) end s.1 s.5 e stands,
-)
+-- one piece
+pub one : (p : Piece) (cs rest : List ℕ) (at end : Pos) → cs ≡ piece_text p ++ rest → Stands p rest → end ≡ after_chars at (piece_text p) → SplitsTo cs at (piece_tokens p at) rest end
+one p cs rest at end parts stands place = record { pieces = p ∷ []; splits = (rest, [], parts, stands, sym (append-nil (piece_tokens p at)), (refl, refl, sym place)) }
 
-pub splits_more : (cs rest following taken : List ℕ) (toks grown : List Tok) (kind : Option TokenKind) (at end : Pos) → SplitsTo cs toks (chars rest) at → Found rest following kind
-    → chars rest ≡ chars taken ++ chars following → grown ≡ toks ++ token_of kind (chars taken) at → end ≡ after_chars at (chars taken) → SplitsTo cs grown (chars following) end
-splits_more cs rest following taken toks grown kind at end s f cut kept place =
-    let same : chars taken ≡ piece_text f.piece = append_cancel_right (chars taken) (piece_text f.piece) (chars following) (sym cut ∙ f.parts) in
-    record {
-      pieces = s.pieces ++ f.piece ∷ [];
-      splits = rw (kept, place, same, f.is) (snoc s.pieces f.piece cs (chars rest) (chars following) _ at toks s.splits f.parts f.stands);
-    }
+pub none : (cs : List ℕ) (at : Pos) → SplitsTo cs at [] cs at
+none cs at = record { pieces = []; splits = (refl, refl, refl) }
 
-shorter : (front rest following : List ℕ) (kind : Option TokenKind) → Found rest following kind → rest ≡ front ++ following → length following < length rest
-shorter [] rest following kind f e =
-    let h = heads f.piece (chars following) f.stands in
-    let same : chars following ≡ h.c ∷ (h.cs ++ chars following) = ap chars (sym e) ∙ f.parts ∙ ap (λ x. x ++ chars following) h.text in
-    absurd (omega (arith, ap length same, length-append h.cs (chars following)))
-shorter (b ∷ front) rest following kind f e = omega (arith, ap length e, length-append front following)
+joined : (ps qs : List Piece) (cs mid rest : List ℕ) (at stop end : Pos) (toks more : List Lexed) → Splits ps cs at toks mid stop → Splits qs mid stop more rest end → Splits (ps ++ qs) cs at (toks ++ more) rest end
+joined [] qs cs mid rest at stop end toks more s t = rw (s.0, s.1, s.2) t
+joined (p ∷ ps) qs cs mid rest at stop end toks more s t =
+    (s.0, s.1 ++ more, s.2, s.3, ap (λ x. x ++ more) s.4 ∙ append_assoc (piece_tokens p at) s.1 more, joined ps qs s.0 mid rest (after_chars at (piece_text p)) stop end s.1 more s.5 t)
 
-pub found_shorter : (rest following : List ℕ) (kind : Option TokenKind) → Found rest following kind → length following < length rest
-found_shorter rest following kind f = shorter f.behind.front rest following kind f f.behind.parts
+-- pieces and further pieces
+pub join : {cs mid rest : List ℕ} {at stop end : Pos} {toks more : List Lexed} → SplitsTo cs at toks mid stop → SplitsTo mid stop more rest end → SplitsTo cs at (toks ++ more) rest end
+join {cs} {mid} {rest} {at} {stop} {end} {toks} {more} s t = record { pieces = s.pieces ++ t.pieces; splits = joined s.pieces t.pieces cs mid rest at stop end toks more s.splits t.splits }
+
+-- pieces and all that follow them
+pub join_all : {cs mid : List ℕ} {at stop : Pos} {toks more : List Lexed} → SplitsTo cs at toks mid stop → HasTokens mid stop more → HasTokens cs at (toks ++ more)
+join_all {cs} {mid} {at} {stop} {toks} {more} s h = record { pieces = s.pieces ++ h.pieces; end = h.end; splits = joined s.pieces h.pieces cs mid [] at stop h.end toks more s.splits h.splits }
+
+pub join_stop : {cs mid : List ℕ} {at stop end : Pos} {toks : List Lexed} → SplitsTo cs at toks mid stop → StopsAt mid stop end → StopsAt cs at end
+join_stop {cs} {mid} {at} {stop} {end} {toks} s t = record {
+  pieces = s.pieces ++ t.pieces;
+  toks = toks ++ t.toks;
+  rest = t.rest;
+  splits = joined s.pieces t.pieces cs mid t.rest at stop end toks t.toks s.splits t.splits;
+  some_left = t.some_left;
+  none_stands = t.none_stands;
+}
+
+pub newline : (text rest : List ℕ) (c : ℕ) (at : Pos) → Begins text c rest → c ≡ 10 → SplitsTo (chars text) at [] (chars rest) (record { line = at.line + 1; col = 1 })
+newline text rest c at b is = one (Blank c) (chars text) (chars rest) at _ b.spelled (rw is refl) (rw is refl)
+
+pub blank : (text rest : List ℕ) (c : ℕ) (at : Pos) → Begins text c rest → is_blank c ≡ true → c ≢ 10 → SplitsTo (chars text) at [] (chars rest) (record { line = at.line; col = at.col + 1 })
+blank text rest c at b is other = one (Blank c) (chars text) (chars rest) at _ b.spelled is (rw (apart c 10 other) refl)
+
+-- the run of a line that begins with these characters
+slashes : (run more rest : List ℕ) → Ends is_in_line rest → 47 ∷ 47 ∷ more ≡ run ++ rest → (cs : List ℕ) × (run ≡ 47 ∷ 47 ∷ cs)
+slashes [] more rest ends e = let wrong = rw (← e) at ends in absurd (cc)
+slashes (a ∷ []) more rest ends e = let tails : 47 ∷ more ≡ rest = cc in let wrong = rw (← tails) at ends in absurd (cc)
+slashes (a ∷ b ∷ cs) more rest ends e = (cs, cc)
+
+pub comment : (text line rest : List ℕ) (count : ℕ) (at : Pos) → Follows text (codes "//") line → RunsTo is_in_line text rest count → SplitsTo (chars text) at [] (chars rest) (record { line = at.line; col = at.col + count })
+comment text line rest count at f r =
+    let begins : chars text ≡ 47 ∷ 47 ∷ chars line = f.spelled ∙ ap (λ x. x ++ chars line) chars-slashes in
+    let s = slashes r.runs.run (chars line) (chars rest) r.ends (sym begins ∙ r.runs.parts) in
+    let all : list_all is_in_line s.0 ≡ true = ap (list_all is_in_line) (sym s.1) ∙ r.runs.all in
+    one (Comment s.0) (chars text) (chars rest) at _ (r.runs.parts ∙ ap (λ x. x ++ chars rest) s.1) (all, r.ends)
+    (ap (λ (n : ℕ). record { line = at.line; col = at.col + n }) (r.runs.counted ∙ ap length s.1) ∙ sym (after_line at (codes "//" ++ s.0) all))
+
+pub comment-shorter : (text line rest : List ℕ) (count : ℕ) → Follows text (codes "//") line → RunsTo is_in_line text rest count → length rest < length text
+comment-shorter text line rest count f r =
+    let begins : chars text ≡ 47 ∷ 47 ∷ chars line = f.spelled ∙ ap (λ x. x ++ chars line) chars-slashes in
+    let s = slashes r.runs.run (chars line) (chars rest) r.ends (sym begins ∙ r.runs.parts) in
+    omega (arith, r.runs.counted, r.runs.short, ap length s.1)
+
+-- a token
+pub token : (text taken rest : List ℕ) (count : ℕ) (kind : TokenKind) (at : Pos) → Found text rest count kind → chars text ≡ chars taken ++ chars rest → IsUtf8 taken
+    → SplitsTo (chars text) at (record { lexeme = lexeme_of kind taken; at = at } ∷ []) (chars rest) (record { line = at.line; col = at.col + count }) × IsKind kind taken
+token text taken rest count kind at f cut utf8 =
+    let same : chars taken ≡ piece_text f.piece = append_cancel_right (chars taken) (piece_text f.piece) (chars rest) (sym cut ∙ f.parts) in
+    let is = f.is taken utf8 same in
+    let place : record { line = at.line; col = at.col + count } ≡ after_chars at (piece_text f.piece) = ap (λ (n : ℕ). record { line = at.line; col = at.col + n }) f.counted ∙ sym (after_line at (piece_text f.piece) f.in_line) in
+    (subst (λ (toks : List Lexed). SplitsTo (chars text) at toks (chars rest) (record { line = at.line; col = at.col + count })) (ap (λ (o : Option Lexeme). token_of o at) is.0) (one f.piece (chars text) (chars rest) at _ f.parts f.stands place), is.1)
+
+-- it has a character
+pub token-shorter : (text rest : List ℕ) (count : ℕ) (kind : TokenKind) → Found text rest count kind → length rest < length text
+token-shorter text rest count kind f =
+    let h = heads f.piece (chars rest) f.stands in
+    omega (arith, f.short, f.counted, ap length h.text)
+
+-- one more element with a property
+pub all_push : {X : Type 0} (P : X → Type 0) (xs : List X) (x : X) → AllByRecursion P xs → P x → AllByRecursion P (xs ++ x ∷ [])
+all_push P [] x all this = (this, tt)
+all_push P (y ∷ xs) x all this = (all.0, all_push P xs x all.1 this)

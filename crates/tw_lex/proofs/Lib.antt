@@ -1,7 +1,9 @@
+pub mod AsciiFronts
 pub mod Classes
 pub mod Endings
 pub mod Growing
+pub mod Lines
 pub mod Pieces
 pub mod Runs
 pub mod Splits
-pub mod Tables
+pub mod SymbolTexts

@@ -1,105 +1,153 @@
--- What the scanning functions find is a piece, and where they find none none of its sort stands.
-use Rattle.std.proofs.Common.{◌≡◌, ◌∙◌, ap, sym, ℕ, ◌<◌, ◌^◌, true, false, if◌then◌else◌, List, ◌∷◌, ◌++◌, append_assoc, codes, decimal, Option, Some, None, IfSome, Bor, refl}
+-- What the scanning functions find is a piece, and where they find none no piece of its sort stands.
+use Rattle.std.proofs.Common.{◌≡◌, ◌∙◌, ap, sym, subst, ℕ, ◌+◌, ◌<◌, ◌≤◌, ◌^◌, ◌==◌, Bool, true, false, if◌then◌else◌, List, [], ◌∷◌, ◌++◌, append_assoc, length, length-append, get_or, codes, decimal, Option, Some, None, refl, arith}
+use Rattle.std.proofs.lemmas.Bool.{and_parts}
+use Rattle.std.specs.List.{list_all}
 use Rattle.std.specs.Option.{IfNone}
 use Rattle.std.specs.Char.{is_ascii_digit}
-use Rattle.std.specs.Str.{chars, IsUtf8, encode_utf8_all}
+use Rattle.std.specs.Str.{chars, IsUtf8, encode_utf8_all, all_ascii_digits}
 use Rattle.std.proofs.lemmas.List.{append_cancel_right}
-use Rattle.std.proofs.lemmas.Str.{chars-IsAscii, encodes-chars, encodes-IsAscii}
+use Rattle.std.proofs.lemmas.Str.{chars-IsAscii, encodes-chars, encodes-IsAscii, encodes-append}
 use Rattle.std.proofs.lemmas.Str.Parse.{numerals_by_value, tells_all_ascii_digits}
 use Rattle.std.proofs.lemmas.Fmt.{digits_decimal, IsAscii-decimal}
 use Rattle.unicode_ident.specs.Ident.{is_xid_continue}
 use Rattle.tw_text.specs.Cuts.{Begins, Follows}
 use Rattle.tw_text.proofs.Cuts.{ends_with_both}
 use Rattle.tw_lex.specs.declared.token.TokenKind.{TokenKind}
-use Rattle.tw_lex.specs.declared.token.TokenKind.TheVariants.{Name, Word, Number, Mark}
-use Rattle.tw_lex.specs.Marks.{marks, reserved_words, is_among}
-use Rattle.tw_lex.specs.Tokens.{Piece, Blank, Comment, Letters, Digits, Sign, is_blank, is_in_line, starts_name, starts_with, Ends}
-use Rattle.tw_lex.specs.Scans.{Found, Lacks, RunsTo}
-use Rattle.tw_lex.specs.Tables.{LongestFront}
+use Rattle.tw_lex.specs.declared.token.TokenKind.TheVariants as kind
+use Rattle.tw_lex.specs.declared.symbol.Symbol.{Symbol}
+use Rattle.tw_lex.specs.Symbols.{symbol_text, symbol_of, all_symbols, is_keyword, starts_with, symbols_from, find_front}
+use Rattle.tw_lex.specs.Tokens.{Piece, Blank, Comment, Letters, Digits, Operator, piece_text, word_lexeme, is_blank, is_in_line, starts_name, Stands, Ends}
+use Rattle.tw_lex.specs.Scans.{Found, Lacks, Runs, RunsTo, lexeme_of, word_kind, IsKind}
 use Rattle.tw_lex.proofs.Runs.{same_run}
-use Rattle.tw_lex.proofs.Classes.{ends-digits}
+use Rattle.tw_lex.proofs.Lines.{in_line, name-in_line}
+use Rattle.tw_lex.proofs.Classes.{Heads, heads, ends-digits, class, class-digit, no_class_digit, sort}
+use Rattle.tw_lex.proofs.SymbolTexts.{chars-symbol, encodes-symbol, symbol-in_line, keyword-starts, find_symbol-text, find_front-longest, find_front-none}
 
-pub found_blank : (text rest : List ℕ) (c : ℕ) → Begins text c rest → is_blank c ≡ true → Found text rest None
-found_blank text rest c b blank = record { piece = Blank c; parts = b.spelled; stands = blank; is = refl; behind = b.behind }
-
-chars-slashes : chars (codes "//") ≡ codes "//"
+pub chars-slashes : chars (codes "//") ≡ codes "//"
 unfolding chars
 chars-slashes = refl
-
-pub found_comment : (text line rest : List ℕ) → Follows text (codes "//") line → RunsTo is_in_line line rest → Found text rest None
-found_comment text line rest f r = record {
-  piece = Comment r.passes.run;
-  parts = f.spelled ∙ rw (chars-slashes, r.passes.parts) (sym (append_assoc (codes "//") r.passes.run (chars rest)));
-  stands = (r.passes.all, r.ends);
-  is = refl;
-  behind = ends_with_both text line rest f.behind r.passes.behind;
-}
 
 pub no_comment : (text : List ℕ) → ((mid : List ℕ) → chars text ≡ chars (codes "//") ++ mid → ⊥) → (cs : List ℕ) → Lacks (chars text) (Comment cs)
 no_comment text none cs mid parts stands = none (cs ++ mid) (rw chars-slashes (parts ∙ append_assoc (codes "//") cs mid))
 
-pub found_letters : (text following rest word : List ℕ) (c : ℕ) (kind : TokenKind) → Begins text c following → starts_name c ≡ true → RunsTo is_xid_continue following rest
-    → chars text ≡ chars word ++ chars rest → kind ≡ (if is_among (chars word) reserved_words then Word else Name) → Found text rest (Some kind)
-found_letters text following rest word c kind b name r cut is =
-    let parts : chars text ≡ (c ∷ r.passes.run) ++ chars rest = b.spelled ∙ ap (λ x. c ∷ x) r.passes.parts in
-    let same : chars word ≡ c ∷ r.passes.run = append_cancel_right (chars word) (c ∷ r.passes.run) (chars rest) (sym cut ∙ parts) in
-    record {
-      piece = Letters c r.passes.run;
+-- what letters are as a token, by their symbol
+word-is : (taken : List ℕ) (c : ℕ) (cs : List ℕ) (found : Option Symbol) → found ≡ symbol_of (c ∷ cs) → starts_name c ≡ true → IsUtf8 taken → chars taken ≡ c ∷ cs
+    → (Some (word_lexeme found (c ∷ cs)) ≡ Some (lexeme_of (word_kind found) taken)) × IsKind (word_kind found) taken
+unfolding symbol_of
+word-is taken c cs None is starts utf8 spelled = (ap (λ (text : List ℕ). Some (word_lexeme None text)) (sym spelled) ∙ ap (λ (text : List ℕ). Some (Rattle.tw_lex.specs.Tokens.Lexeme.Name text)) (encodes-chars taken utf8), tt)
+word-is taken c cs (Some symbol) is starts utf8 spelled =
+    let text : symbol_text symbol ≡ c ∷ cs = find_symbol-text all_symbols (c ∷ cs) symbol (sym is) in
+    (refl, (sym (encodes-chars taken utf8) ∙ ap encode_utf8_all (spelled ∙ sym text) ∙ encodes-symbol symbol, sym (keyword-starts symbol) ∙ ap (starts_with starts_name) text ∙ starts))
+
+pub found_word : (text following rest word : List ℕ) (c count : ℕ) → Begins text c following → starts_name c ≡ true → RunsTo is_xid_continue following rest count
+    → chars text ≡ chars word ++ chars rest → Found text rest (count + 1) (word_kind (symbol_of (chars word)))
+found_word text following rest word c count b starts r cut =
+    let parts : chars text ≡ (c ∷ r.runs.run) ++ chars rest = b.spelled ∙ ap (λ x. c ∷ x) r.runs.parts in
+    let same : chars word ≡ c ∷ r.runs.run = append_cancel_right (chars word) (c ∷ r.runs.run) (chars rest) (sym cut ∙ parts) in
+    rw same (record {
+      piece = Letters c r.runs.run;
       parts = parts;
-      stands = (name, r.passes.all, r.ends);
-      is = ap Some (rw same at is);
-      behind = ends_with_both text following rest b.behind r.passes.behind;
-    }
+      stands = (starts, r.runs.all, r.ends);
+      is = λ taken utf8 spelled. word-is taken c r.runs.run (symbol_of (c ∷ r.runs.run)) refl starts utf8 spelled;
+      in_line = name-in_line c r.runs.run starts r.runs.all;
+      counted = omega (arith, r.runs.counted);
+      short = omega (arith, r.runs.short, b.shorter);
+      behind = ends_with_both text following rest b.behind r.runs.behind;
+    })
+
+all_digits : (value : ℕ) → value < 2 ^ 64 → all_ascii_digits (decimal value) ≡ true
+all_digits value small = digits_decimal (numerals_by_value _ tells_all_ascii_digits) value small
 
 -- digits at the front are the run's
-same_digits : (text rest mid : List ℕ) (value : ℕ) → (r : RunsTo is_ascii_digit text rest) → chars text ≡ decimal value ++ mid → value < 2 ^ 64 → Ends is_xid_continue mid → (r.passes.run ≡ decimal value) × (chars rest ≡ mid)
-same_digits text rest mid value r parts small ends =
-    same_run is_ascii_digit r.passes.run (decimal value) (chars rest) mid r.passes.all (digits_decimal (numerals_by_value _ tells_all_ascii_digits) value small) r.ends (ends-digits mid ends) (sym r.passes.parts ∙ parts)
+same_digits : (text rest mid : List ℕ) (value count : ℕ) → (r : RunsTo is_ascii_digit text rest count) → chars text ≡ decimal value ++ mid → value < 2 ^ 64 → Ends is_xid_continue mid → (r.runs.run ≡ decimal value) × (chars rest ≡ mid)
+same_digits text rest mid value count r parts small ends =
+    same_run is_ascii_digit r.runs.run (decimal value) (chars rest) mid r.runs.all (all_digits value small) r.ends (ends-digits mid ends) (sym r.runs.parts ∙ parts)
 
-pub found_number : (text rest run : List ℕ) (value : ℕ) → (RunsTo is_ascii_digit text rest) → chars text ≡ chars run ++ chars rest → run ≡ decimal value → value < 2 ^ 64
-    → starts_with is_xid_continue (chars rest) ≡ false → Found text rest (Some (Number value))
-found_number text rest run value r cut is small ends = record {
-  piece = Digits value;
-  parts = cut ∙ ap (λ x. x ++ chars rest) (ap chars is ∙ chars-IsAscii (decimal value) (IsAscii-decimal value small));
-  stands = (small, ends);
-  is = refl;
-  behind = r.passes.behind;
-}
+pub found_number : (text rest run : List ℕ) (value count : ℕ) → RunsTo is_ascii_digit text rest count → chars text ≡ chars run ++ chars rest → run ≡ decimal value → value < 2 ^ 64
+    → starts_with is_xid_continue (chars rest) ≡ false → Found text rest count (kind.Number value)
+found_number text rest run value count r cut is small ends =
+    let spelled : chars run ≡ decimal value = ap chars is ∙ chars-IsAscii (decimal value) (IsAscii-decimal value small) in
+    let same : r.runs.run ≡ decimal value = append_cancel_right r.runs.run (decimal value) (chars rest) (sym r.runs.parts ∙ cut ∙ ap (λ x. x ++ chars rest) spelled) in
+    record {
+      piece = Digits value;
+      parts = cut ∙ ap (λ x. x ++ chars rest) spelled;
+      stands = (small, ends);
+      is = λ taken utf8 digits. (refl, sym (encodes-chars taken utf8) ∙ ap encode_utf8_all digits ∙ encodes-IsAscii (decimal value) (IsAscii-decimal value small));
+      in_line = in_line is_ascii_digit (decimal value) refl (all_digits value small);
+      counted = r.runs.counted ∙ ap length same;
+      short = r.runs.short;
+      behind = r.runs.behind;
+    }
 
-pub no_number : (text rest run : List ℕ) → RunsTo is_ascii_digit text rest → chars text ≡ chars run ++ chars rest → IsUtf8 run → ((n : ℕ) → n < 2 ^ 64 → run ≡ decimal n → ⊥) → (value : ℕ) → Lacks (chars text) (Digits value)
-no_number text rest run r cut utf8 none value mid parts stands =
-    let same = same_digits text rest mid value r parts stands.0 stands.1 in
+pub no_number : (text rest run : List ℕ) (count : ℕ) → RunsTo is_ascii_digit text rest count → chars text ≡ chars run ++ chars rest → IsUtf8 run → ((n : ℕ) → n < 2 ^ 64 → run ≡ decimal n → ⊥) → (value : ℕ) → Lacks (chars text) (Digits value)
+no_number text rest run count r cut utf8 none value mid parts stands =
+    let same = same_digits text rest mid value count r parts stands.0 stands.1 in
     let spelled : chars run ≡ decimal value = append_cancel_right (chars run) (decimal value) (chars rest) (sym cut ∙ parts ∙ ap (λ x. decimal value ++ x) (sym same.1)) in
     none value stands.0 (sym (encodes-chars run utf8) ∙ ap encode_utf8_all spelled ∙ encodes-IsAscii (decimal value) (IsAscii-decimal value stands.0))
 
-pub no_number_before_letter : (text rest : List ℕ) → RunsTo is_ascii_digit text rest → starts_with is_xid_continue (chars rest) ≡ true → (value : ℕ) → Lacks (chars text) (Digits value)
-no_number_before_letter text rest r letter value mid parts stands =
-    let same = same_digits text rest mid value r parts stands.0 stands.1 in
+pub no_number_before_letter : (text rest : List ℕ) (count : ℕ) → RunsTo is_ascii_digit text rest count → starts_with is_xid_continue (chars rest) ≡ true → (value : ℕ) → Lacks (chars text) (Digits value)
+no_number_before_letter text rest count r letter value mid parts stands =
+    let same = same_digits text rest mid value count r parts stands.0 stands.1 in
     let ends = rw (← same.1) at stands.1 in cc
 
--- where no piece of any sort stands, none does
-pub none_stands : {cs : List ℕ} → ((c : ℕ) → Lacks cs (Blank c)) → ((text : List ℕ) → Lacks cs (Comment text)) → ((c : ℕ) (text : List ℕ) → Lacks cs (Letters c text))
-    → ((value : ℕ) → Lacks cs (Digits value)) → ((text : List ℕ) → Lacks cs (Sign text)) → (piece : Piece) → Lacks cs piece
-none_stands blank comment letters digits sign (Blank c) = blank c
-none_stands blank comment letters digits sign (Comment text) = comment text
-none_stands blank comment letters digits sign (Letters c text) = letters c text
-none_stands blank comment letters digits sign (Digits value) = digits value
-none_stands blank comment letters digits sign (Sign text) = sign text
+front_test : (test : ℕ → Bool) (front rest : List ℕ) → starts_with test (front ++ rest) ≡ false → starts_with test front ≡ false
+front_test test [] rest h = refl
+front_test test (c ∷ front) rest h = h
 
-found_mark : (text rest : List ℕ) → LongestFront marks text rest → Found text rest (Some Mark)
-found_mark text rest f = record {
-  piece = Sign f.front;
-  parts = f.parts;
-  stands = (f.among, λ other more among e. f.longest other more among (f.parts ∙ e));
-  is = refl;
-  behind = f.behind;
-}
+pub found_operator : (first : ℕ) (more text rest : List ℕ) (symbol : Symbol) → chars text ≡ first ∷ more → starts_name first ≡ false → find_front (symbols_from first) (chars text) ≡ Some symbol
+    → Follows text (symbol_text symbol) rest → IsUtf8 text → IsUtf8 rest → Found text rest (length (symbol_text symbol)) (kind.Mark symbol)
+found_operator first more text rest symbol begins none found f utf8 utf8' =
+    let parts : chars text ≡ symbol_text symbol ++ chars rest = f.spelled ∙ ap (λ x. x ++ chars rest) (chars-symbol symbol) in
+    let no_keyword : is_keyword symbol ≡ false = sym (keyword-starts symbol) ∙ front_test starts_name (symbol_text symbol) (chars rest) (rw (← parts, begins) none) in
+    let bytes : text ≡ symbol_text symbol ++ rest =
+    sym (encodes-chars text utf8) ∙ ap encode_utf8_all parts ∙ encodes-append (symbol_text symbol) (chars rest) ∙ ap (λ x. x ++ encode_utf8_all (chars rest)) (encodes-symbol symbol) ∙ ap (λ x. symbol_text symbol ++ x) (encodes-chars rest utf8') in
+    record {
+      piece = Operator symbol;
+      parts = parts;
+      stands = (no_keyword, λ other mid e. find_front-longest first more symbol other mid (ap (find_front (symbols_from first)) (sym begins) ∙ found) (sym begins ∙ parts ∙ e));
+      is = λ taken utf8 spelled. (refl, (sym (encodes-chars taken utf8) ∙ ap encode_utf8_all spelled ∙ encodes-symbol symbol, no_keyword));
+      in_line = symbol-in_line symbol;
+      counted = refl;
+      short = omega (arith, ap length bytes, length-append (symbol_text symbol) rest);
+      behind = f.behind;
+    }
 
-pub mark_or_none : (text : List ℕ) (found : Option (Bor (List ℕ))) (texts : List (List ℕ)) → texts ≡ marks → IfSome found (λ rest. LongestFront texts text rest.now) → IfSome found (λ rest. Found text rest.now (Some Mark))
-mark_or_none text None texts same h = tt
-mark_or_none text (Some rest) texts same h = found_mark text rest.now (rw same at h)
+pub no_operator : (first : ℕ) (more text : List ℕ) → chars text ≡ first ∷ more → find_front (symbols_from first) (chars text) ≡ None → (symbol : Symbol) → Lacks (chars text) (Operator symbol)
+no_operator first more text begins none symbol mid parts stands =
+    find_front-none first more symbol mid (ap (find_front (symbols_from first)) (sym begins) ∙ none) (sym begins ∙ parts)
 
-pub no_mark_or_some : (text : List ℕ) (found : Option (Bor (List ℕ))) (texts : List (List ℕ)) → texts ≡ marks → IfNone found ((other mid : List ℕ) → is_among other texts ≡ true → chars text ≡ other ++ mid → ⊥)
-    → IfNone found ((cs : List ℕ) → Lacks (chars text) (Sign cs))
-no_mark_or_some text None texts same none = λ cs mid parts stands. none cs mid (rw same stands.0) parts
-no_mark_or_some text (Some rest) texts same none = tt
+-- where no piece of the sort of the first character stands, none does
+pub none_by_class : {cs : List ℕ} (c : ℕ) (more : List ℕ) → cs ≡ c ∷ more → ((piece : Piece) → sort piece ≡ class c → Lacks cs piece) → (piece : Piece) → Lacks cs piece
+none_by_class {cs} c more begins none piece mid parts stands =
+    let h = heads piece mid stands in
+    let texts : c ∷ more ≡ h.c ∷ (h.cs ++ mid) = sym begins ∙ parts ∙ ap (λ x. x ++ mid) h.text in
+    let first : h.c ≡ c = cc in
+    none piece (sym h.sorted ∙ ap class first) mid parts stands
+
+first_same : {cs xs ys : List ℕ} {c d : ℕ} → cs ≡ c ∷ xs → cs ≡ d ∷ ys → d ≡ c
+first_same e f = cc
+
+only_digits : {cs : List ℕ} → ((value : ℕ) → Lacks cs (Digits value)) → (piece : Piece) → sort piece ≡ 3 → Lacks cs piece
+only_digits none (Digits value) is = none value
+only_digits none piece is = absurd (omega arith)
+
+pub none_by_digit : {cs : List ℕ} (c : ℕ) (more : List ℕ) → cs ≡ c ∷ more → is_ascii_digit c ≡ true → ((value : ℕ) → Lacks cs (Digits value)) → (piece : Piece) → Lacks cs piece
+none_by_digit c more begins digit none = none_by_class c more begins (λ piece is. only_digits none piece (is ∙ class-digit c digit))
+
+-- neither letters nor digits stand where no such character does
+pub none_by_operator : {cs : List ℕ} (c : ℕ) (more : List ℕ) → cs ≡ c ∷ more → starts_name c ≡ false → is_ascii_digit c ≡ false → ((c : ℕ) → Lacks cs (Blank c)) → ((text : List ℕ) → Lacks cs (Comment text))
+    → ((symbol : Symbol) → Lacks cs (Operator symbol)) → (piece : Piece) → Lacks cs piece
+none_by_operator c more begins letter digit blank comment operator (Blank d) = blank d
+none_by_operator c more begins letter digit blank comment operator (Comment text) = comment text
+none_by_operator c more begins letter digit blank comment operator (Letters d text) = λ mid parts stands. let first : d ≡ c = first_same begins parts in let starts : starts_name c ≡ true = rw (← first) stands.0 in absurd (cc)
+none_by_operator c more begins letter digit blank comment operator (Digits value) = λ mid parts stands.
+    let h = heads (Digits value) mid stands in
+    let first : h.c ≡ c = first_same begins (parts ∙ ap (λ x. x ++ mid) h.text) in
+    let is_digit : class c ≡ 3 = ap class (sym first) ∙ h.sorted in
+    absurd (no_class_digit c letter digit is_digit)
+none_by_operator c more begins letter digit blank comment operator (Operator symbol) = operator symbol
+
+-- what follows from one fact where nothing was found
+pub if_none : {X : Type 0} {P Q : Type 0} (o : Option X) → (P → Q) → IfNone o P → IfNone o Q
+if_none None f h = f h
+if_none (Some x) f h = tt

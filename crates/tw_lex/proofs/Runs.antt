@@ -1,5 +1,5 @@
 -- Runs of characters that pass a test.
-use Rattle.std.proofs.Common.{◌≡◌, ◌∙◌, ap, sym, ℕ, Bool, true, List, [], ◌∷◌, ◌++◌, append_assoc, refl}
+use Rattle.std.proofs.Common.{◌≡◌, ◌∙◌, ap, sym, ℕ, Bool, true, ◌+◌, List, [], ◌∷◌, ◌++◌, append_assoc, length, length-append, refl, arith}
 use Rattle.std.proofs.lemmas.Bool.{and_parts}
 use Rattle.std.specs.List.{list_all}
 use Rattle.std.specs.Str.{chars}
@@ -7,17 +7,19 @@ use Rattle.std.proofs.lemmas.List.Folds.{list_all-append}
 use Rattle.tw_text.specs.Cuts.{Begins}
 use Rattle.tw_text.proofs.Cuts.{ends_with_both}
 use Rattle.tw_lex.specs.Tokens.{Ends}
-use Rattle.tw_lex.specs.Scans.{Passes}
+use Rattle.tw_lex.specs.Scans.{Runs}
 
-pub passes_none : (test : ℕ → Bool) (text : List ℕ) → Passes test text text
-passes_none test text = record { run = []; parts = refl; all = refl; behind = record { front = []; parts = refl } }
+pub runs_none : (test : ℕ → Bool) (text : List ℕ) → Runs test text text 0
+runs_none test text = record { run = []; parts = refl; all = refl; counted = refl; short = omega arith; behind = record { front = []; parts = refl } }
 
-pub passes_more : (test : ℕ → Bool) (text rest following : List ℕ) (c : ℕ) → Passes test text rest → Begins rest c following → test c ≡ true → Passes test text following
-passes_more test text rest following c p b passed = record {
-  run = p.run ++ c ∷ [];
-  parts = p.parts ∙ ap (λ x. p.run ++ x) b.spelled ∙ sym (append_assoc p.run (c ∷ []) (chars following));
-  all = list_all-append test p.run (c ∷ []) ∙ rw (p.all, passed) refl;
-  behind = ends_with_both text rest following p.behind b.behind;
+pub runs_more : (test : ℕ → Bool) (text rest following : List ℕ) (c count : ℕ) → Runs test text rest count → Begins rest c following → test c ≡ true → Runs test text following (count + 1)
+runs_more test text rest following c count r b passed = record {
+  run = r.run ++ c ∷ [];
+  parts = r.parts ∙ ap (λ x. r.run ++ x) b.spelled ∙ sym (append_assoc r.run (c ∷ []) (chars following));
+  all = list_all-append test r.run (c ∷ []) ∙ rw (r.all, passed) refl;
+  counted = omega (arith, r.counted, length-append r.run (c ∷ []));
+  short = omega (arith, r.short, b.shorter);
+  behind = ends_with_both text rest following r.behind b.behind;
 }
 
 -- two runs that end in one text are one

@@ -8,7 +8,9 @@ use Rattle.std.proofs.lemmas.Fmt.{digits_decimal, decimal_injective}
 use Rattle.unicode_ident.specs.Ident.{is_xid_continue}
 use Rattle.tw_text.specs.declared.place.Pos.{Pos}
 use Rattle.tw_text.specs.Places.{after_chars}
-use Rattle.tw_lex.specs.Tokens.{Tok, Piece, Blank, Comment, Letters, Digits, Sign, piece_text, piece_tokens, is_in_line, Stands, Splits, HasTokens, StopsAt}
+use Rattle.tw_lex.specs.Tokens.{Lexed, Piece, Blank, Comment, Letters, Digits, Operator, piece_text, piece_tokens, is_in_line, Stands, Splits, HasTokens, StopsAt}
+use Rattle.tw_lex.specs.Symbols.{symbol_text}
+use Rattle.tw_lex.proofs.SymbolTexts.{one_symbol}
 use Rattle.tw_lex.proofs.Runs.{same_run}
 use Rattle.tw_lex.proofs.Classes.{sort, class, heads, ends-digits}
 
@@ -40,11 +42,11 @@ same_sort (Letters c cs) (Letters d ds) mid nid same s t e =
 same_sort (Digits v) (Digits w) mid nid same s t e =
     let both = same_run is_ascii_digit (decimal v) (decimal w) mid nid (all_digits v s.0) (all_digits w t.0) (ends-digits mid s.1) (ends-digits nid t.1) e in
     (ap Digits (decimal_injective v w s.0 t.0 both.0), both.1)
-same_sort (Sign cs) (Sign ds) mid nid same s t e =
-    let long = s.1 ds nid t.0 e in
-    let long' = t.1 cs mid s.0 (sym e) in
-    let both = same_front cs ds mid nid (omega arith) e in
-    (ap Sign both.0, both.1)
+same_sort (Operator symbol) (Operator other) mid nid same s t e =
+    let long = s.1 other nid e in
+    let long' = t.1 symbol mid (sym e) in
+    let both = same_front (symbol_text symbol) (symbol_text other) mid nid (omega arith) e in
+    (ap Operator (one_symbol symbol other both.0), both.1)
 same_sort p q mid nid same s t e = absurd (omega arith)
 
 -- two pieces at one place are the same
@@ -62,13 +64,13 @@ not_nothing p mid s e =
     let empty : [] ≡ f.c ∷ (f.cs ++ mid) = e ∙ ap (λ x. x ++ mid) f.text in cc
 
 -- what a whole text has behind the pieces at its front
-pub record Behind (toks other : List Tok) (rest : List ℕ) (at end : Pos) : Type 0 where
+pub record Behind (toks other : List Lexed) (rest : List ℕ) (at end : Pos) : Type 0 where
   pub pieces : List Piece
-  pub more : List Tok
+  pub more : List Lexed
   pub all : other ≡ toks ++ more
   pub splits : Splits pieces rest at more [] end
 
-pub behind : (ps qs : List Piece) (cs : List ℕ) (at : Pos) (toks other : List Tok) (rest : List ℕ) (stop end : Pos) → Splits ps cs at toks rest stop → Splits qs cs at other [] end → Behind toks other rest stop end
+pub behind : (ps qs : List Piece) (cs : List ℕ) (at : Pos) (toks other : List Lexed) (rest : List ℕ) (stop end : Pos) → Splits ps cs at toks rest stop → Splits qs cs at other [] end → Behind toks other rest stop end
 behind [] qs cs at toks other rest stop end s t =
     record { pieces = qs; more = other; all = rw s.1 refl; splits = rw (← s.0, ← s.2) t }
 behind (p ∷ ps) [] cs at toks other rest stop end s t = absurd (not_nothing p s.0 s.3 (sym t.0 ∙ s.2))
@@ -83,27 +85,27 @@ behind (p ∷ ps) (q ∷ qs) cs at toks other rest stop end s t =
       splits = b.splits;
     }
 
-nothing_left : (ps : List Piece) (at end : Pos) (more : List Tok) → Splits ps [] at more [] end → more ≡ []
+nothing_left : (ps : List Piece) (at end : Pos) (more : List Lexed) → Splits ps [] at more [] end → more ≡ []
 nothing_left [] at end more s = s.1
 nothing_left (p ∷ ps) at end more s = absurd (not_nothing p s.0 s.3 s.2)
 
 -- a text has its tokens and no others
-pub one_reading : (cs : List ℕ) (at : Pos) (toks other : List Tok) → HasTokens cs at toks → HasTokens cs at other → other ≡ toks
+pub one_reading : (cs : List ℕ) (at : Pos) (toks other : List Lexed) → HasTokens cs at toks → HasTokens cs at other → other ≡ toks
 one_reading cs at toks other h k =
     let b = behind h.pieces k.pieces cs at toks other [] h.end k.end h.splits k.splits in
     b.all ∙ ap (λ x. toks ++ x) (nothing_left b.pieces h.end k.end b.more b.splits) ∙ append-nil toks
 
-one_more : (ps : List Piece) (rest : List ℕ) (at end : Pos) (more : List Tok) → Splits ps rest at more [] end → rest ≢ [] → ((piece : Piece) (mid : List ℕ) → rest ≡ piece_text piece ++ mid → Stands piece mid → ⊥) → ⊥
+one_more : (ps : List Piece) (rest : List ℕ) (at end : Pos) (more : List Lexed) → Splits ps rest at more [] end → rest ≢ [] → ((piece : Piece) (mid : List ℕ) → rest ≡ piece_text piece ++ mid → Stands piece mid → ⊥) → ⊥
 one_more [] rest at end more s some none = some s.0
 one_more (p ∷ ps) rest at end more s some none = none p s.0 s.2 s.3
 
 -- and where its pieces stop it has none
-pub no_reading : (cs : List ℕ) (at stop : Pos) (toks : List Tok) → StopsAt cs at stop → HasTokens cs at toks → ⊥
+pub no_reading : (cs : List ℕ) (at stop : Pos) (toks : List Lexed) → StopsAt cs at stop → HasTokens cs at toks → ⊥
 no_reading cs at stop toks s h =
     let b = behind s.pieces h.pieces cs at s.toks toks s.rest stop h.end s.splits h.splits in
     one_more b.pieces s.rest stop h.end b.more b.splits s.some_left s.none_stands
 
-one_stop_from : (ps qs : List Piece) (cs : List ℕ) (at : Pos) (toks other : List Tok) (rest tail : List ℕ) (stop end : Pos) → Splits ps cs at toks rest stop → Splits qs cs at other tail end
+one_stop_from : (ps qs : List Piece) (cs : List ℕ) (at : Pos) (toks other : List Lexed) (rest tail : List ℕ) (stop end : Pos) → Splits ps cs at toks rest stop → Splits qs cs at other tail end
     → ((piece : Piece) (mid : List ℕ) → rest ≡ piece_text piece ++ mid → Stands piece mid → ⊥) → ((piece : Piece) (mid : List ℕ) → tail ≡ piece_text piece ++ mid → Stands piece mid → ⊥) → stop ≡ end
 one_stop_from [] [] cs at toks other rest tail stop end s t none none' = sym s.2 ∙ t.2
 one_stop_from [] (q ∷ qs) cs at toks other rest tail stop end s t none none' = absurd (none q t.0 (sym s.0 ∙ t.2) t.3)

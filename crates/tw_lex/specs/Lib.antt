@@ -1,4 +1,4 @@
-pub mod Marks
+pub mod Next
 pub mod Scans
-pub mod Tables
+pub mod Symbols
 pub mod Tokens

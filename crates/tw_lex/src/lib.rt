@@ -1,17 +1,22 @@
-//! Tokens: the names, words, numbers and marks of a text, each with its place.
+//! Tokens: the names, keywords, numbers, operators and delimiters of a text, each with its place.
 //! The definitions of `specs/` say what the pieces of a text are, and `proofs/` has their laws.
 #![tactic(auto)]
 
-mod letters;
+mod leading;
 mod lexer;
-mod mark;
+mod next;
 mod number;
-mod piece;
+mod operator;
 mod run;
+mod scanned;
 mod space;
+mod suffix;
+mod symbol;
 #[cfg(test)]
 mod tests;
 mod token;
+mod word;
 
 pub use lexer::tokens;
+pub use symbol::Symbol;
 pub use token::{Token, TokenKind};

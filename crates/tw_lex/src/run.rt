@@ -1,10 +1,12 @@
+//! Runs of characters of one sort.
+
 ghost use Rattle.std.specs.Prelude.{◌≡◌};
 ghost use Rattle.tw_lex.specs.Scans.{goes_on, RunsTo};
 
-use tw_text::first_char;
+use crate::leading::leading_char;
 use unicode_ident::is_xid_continue;
 
-/// A run of characters of one sort.
+/// A sort of characters.
 #[derive(Debug, Clone, Copy, PartialEq, Eq)]
 pub enum Run {
     /// Characters that may continue a name.
@@ -26,16 +28,18 @@ fn goes_on(run: Run, c: char) -> bool
     }
 }
 
-/// What follows the longest run at the front of a text.
-pub fn after_run(text: &str, run: Run) -> &str
-    ensures { RunsTo (goes_on run) text.now result.now }
+/// What follows the longest run at the front of a text, and the number of the run's characters.
+pub fn after_run(text: &str, run: Run) -> (&str, usize)
+    ensures { RunsTo (goes_on run) text.now result.0.now result.1 }
 {
     let mut rest = text;
-    while let Some((c, following)) = first_char(rest) {
+    let mut count = 0;
+    while let Some((c, following)) = leading_char(rest) {
         if !goes_on(run, c) {
-            return rest;
+            return (rest, count);
         }
         rest = following;
+        count += 1;
     }
-    rest
+    (rest, count)
 }

@@ -1,33 +1,64 @@
-ghost use Rattle.std.specs.Prelude.{◌≡◌, ℕ, List, IfSome};
+//! White space and comments.
+
+ghost use Rattle.std.specs.Prelude.{◌≡◌, ◌<◌, ◌≤◌, ℕ, List, [], length, IfSome};
 ghost use Rattle.std.specs.Option.{IfNone};
 ghost use Rattle.std.specs.Str.{chars};
-ghost use Rattle.tw_lex.specs.Scans.{Found, Lacks};
+ghost use Rattle.tw_lex.specs.Scans.{SplitsTo, Lacks};
 ghost use Rattle.tw_lex.specs.Tokens.{is_blank, Blank, Comment};
 
+use crate::leading::leading_char;
 use crate::run::{Run, after_run};
-use tw_text::{first_char, text_after};
+use crate::suffix::Suffix;
+use tw_text::text_after;
 
 /// Whether a character is white space.
 fn is_blank(c: char) -> bool
     ensures { result ≡ is_blank c }
 {
-    c == ' ' || c == '\t' || c == '\r' || c == '\n'
+    c == ' ' || c == '\n' || c == '\t' || c == '\r'
 }
 
-/// What follows the character of white space at the front of a text.
-pub fn after_blank(text: &str) -> Option<&str>
-    ensures some { IfSome result (λ rest. Found text.now rest.now None) }
-    ensures none { IfNone result ((c : ℕ) → Lacks (chars text.now) (Blank c)) }
+/// The suffix after the comment at the front of this one, from its newline on.
+fn after_comment(suffix: Suffix<'_>) -> Option<Suffix<'_>>
+    ensures some { IfSome result (λ found. SplitsTo (chars suffix.entry.text.now) suffix.entry.at [] (chars found.text.now) found.at) }
+    ensures shorter { IfSome result (λ found. length found.text.now < length suffix.entry.text.now) }
+    ensures none { IfNone result ((cs : List ℕ) → Lacks (chars suffix.entry.text.now) (Comment cs)) }
 {
-    let (c, rest) = first_char(text)?;
-    if is_blank(c) { Some(rest) } else { None }
+    text_after(suffix.text, "//")?;
+    let (rest, count) = after_run(suffix.text, Run::Line);
+    Some(suffix.past(count, rest))
 }
 
-/// What follows the comment at the front of a text, from the newline behind it on.
-pub fn after_comment(text: &str) -> Option<&str>
-    ensures some { IfSome result (λ rest. Found text.now rest.now None) }
-    ensures none { IfNone result ((cs : List ℕ) → Lacks (chars text.now) (Comment cs)) }
+/// The suffix after the character of white space or the comment at the front of this one.
+fn after_space(suffix: Suffix<'_>) -> Option<Suffix<'_>>
+    ensures some { IfSome result (λ found. SplitsTo (chars suffix.entry.text.now) suffix.entry.at [] (chars found.text.now) found.at) }
+    ensures shorter { IfSome result (λ found. length found.text.now < length suffix.entry.text.now) }
+    ensures no_blank { IfNone result ((c : ℕ) → Lacks (chars suffix.entry.text.now) (Blank c)) }
+    ensures no_comment { IfNone result ((cs : List ℕ) → Lacks (chars suffix.entry.text.now) (Comment cs)) }
 {
-    let line = text_after(text, "//")?;
-    Some(after_run(line, Run::Line))
+    let (c, rest) = leading_char(suffix.text)?;
+    if c == '\n' {
+        return Some(suffix.next_line(rest));
+    }
+    if is_blank(c) {
+        return Some(suffix.past(1, rest));
+    }
+    if c != '/' {
+        return None;
+    }
+    after_comment(suffix)
+}
+
+/// The suffix after all white space and comments at the front of this one.
+pub fn after_spaces(suffix: Suffix<'_>) -> Suffix<'_>
+    ensures spaces { SplitsTo (chars suffix.entry.text.now) suffix.entry.at [] (chars result.text.now) result.at }
+    ensures shorter { length result.text.now ≤ length suffix.entry.text.now }
+    ensures no_blank { (c : ℕ) → Lacks (chars result.text.now) (Blank c) }
+    ensures no_comment { (cs : List ℕ) → Lacks (chars result.text.now) (Comment cs) }
+{
+    let mut rest = suffix;
+    while let Some(following) = after_space(rest) {
+        rest = following;
+    }
+    rest
 }

@@ -1,4 +1,4 @@
-use crate::{TokenKind, tokens};
+use crate::{Symbol, TokenKind, tokens};
 use std::test::Fail;
 use tw_text::{Fault, Pos, Refusal, Rule};
 
@@ -6,18 +6,18 @@ use tw_text::{Fault, Pos, Refusal, Rule};
 fn reads_names_words_marks_and_numbers(rt: HostRuntime) -> Result<(), Fail> {
     let text = "fun main(a: bool) -> x<-y<->z // c\nλ1 é_ 0\t18446744073709551615\r\n";
     let table = [
-        ("fun", 1, 1, TokenKind::Word),
+        ("fun", 1, 1, TokenKind::Word(Symbol::Fun)),
         ("main", 1, 5, TokenKind::Name),
-        ("(", 1, 9, TokenKind::Mark),
+        ("(", 1, 9, TokenKind::Mark(Symbol::OpenParen)),
         ("a", 1, 10, TokenKind::Name),
-        (":", 1, 11, TokenKind::Mark),
-        ("bool", 1, 13, TokenKind::Word),
-        (")", 1, 17, TokenKind::Mark),
-        ("->", 1, 19, TokenKind::Mark),
+        (":", 1, 11, TokenKind::Mark(Symbol::Colon)),
+        ("bool", 1, 13, TokenKind::Word(Symbol::Bool)),
+        (")", 1, 17, TokenKind::Mark(Symbol::CloseParen)),
+        ("->", 1, 19, TokenKind::Mark(Symbol::Arrow)),
         ("x", 1, 22, TokenKind::Name),
-        ("<-", 1, 23, TokenKind::Mark),
+        ("<-", 1, 23, TokenKind::Mark(Symbol::Assign)),
         ("y", 1, 25, TokenKind::Name),
-        ("<->", 1, 26, TokenKind::Mark),
+        ("<->", 1, 26, TokenKind::Mark(Symbol::Swap)),
         ("z", 1, 29, TokenKind::Name),
         ("λ1", 2, 1, TokenKind::Name),
         ("é_", 2, 4, TokenKind::Name),

@@ -1,3 +1,4 @@
+use crate::Symbol;
 use tw_text::Pos;
 
 /// What a token is.
@@ -5,12 +6,12 @@ use tw_text::Pos;
 pub enum TokenKind {
     /// A name.
     Name,
-    /// A word of the language, which is no name.
-    Word,
+    /// A keyword.
+    Word(Symbol),
     /// A number, with its value.
     Number(u64),
-    /// A mark.
-    Mark,
+    /// An operator or a delimiter.
+    Mark(Symbol),
 }
 
 /// A token: its text, which is a slice of the source, its place, and what it is.

@@ -2,7 +2,7 @@
 use Rattle.std.proofs.Common.{◌≡◌, refl, ap, sym, ◌∙◌, suc, List, [], ◌∷◌, map, length}
 use Rattle.tw_syntax.specs.Unplaced.{no_place, unplaced_decl, unplaced_program}
 use Rattle.tw_syntax.specs.Programs.{ProgramTree}
-use Rattle.tw_parse.specs.Words.{W, Tok}
+use Rattle.tw_lex.specs.Tokens.{Lexeme, Lexed}
 use Rattle.tw_parse.specs.Statements.{ProgramForm, program_text}
 use Rattle.tw_parse.specs.Trees.{decls_tree, HasTree}
 use Rattle.tw_parse.specs.Whole.{IsProgram, IsShallow}
@@ -13,26 +13,26 @@ use Rattle.tw_parse.proofs.forms.UnplacedTerms.{unplaced_tok}
 use Rattle.tw_parse.proofs.forms.UnplacedStatements.{unplaced_program_form, program_text-unplaced, decls_tree-unplaced}
 
 -- the words of tokens
-abbrev pub words_of : List Tok → List W
-words_of toks = map (λ (t : Tok). t.word) toks
+abbrev pub words_of : List Lexed → List Lexeme
+words_of toks = map (λ (t : Lexed). t.lexeme) toks
 
 -- two lists of words that are the same begin with the same word
-first_word : {x y : W} {xs ys : List W} → x ∷ xs ≡ y ∷ ys → x ≡ y
+first_word : {x y : Lexeme} {xs ys : List Lexeme} → x ∷ xs ≡ y ∷ ys → x ≡ y
 first_word e = cc
 
 -- what stands behind it is the same
-rest_words : {x y : W} {xs ys : List W} → x ∷ xs ≡ y ∷ ys → xs ≡ ys
+rest_words : {x y : Lexeme} {xs ys : List Lexeme} → x ∷ xs ≡ y ∷ ys → xs ≡ ys
 rest_words e = cc
 
 -- tokens with the same words are as many
-pub words-length : (toks others : List Tok) → words_of toks ≡ words_of others → length toks ≡ length others
+pub words-length : (toks others : List Lexed) → words_of toks ≡ words_of others → length toks ≡ length others
 words-length [] [] e = refl
 words-length [] (u ∷ us) e = absurd (cc)
 words-length (t ∷ ts) [] e = absurd (cc)
 words-length (t ∷ ts) (u ∷ us) e = ap suc (words-length ts us (rest_words e))
 
 -- the machine looks at words alone
-pub words-run : (toks others : List Tok) → words_of toks ≡ words_of others → run toks ≡ run others
+pub words-run : (toks others : List Lexed) → words_of toks ≡ words_of others → run toks ≡ run others
 words-run [] [] e = refl
 words-run [] (u ∷ us) e = absurd (cc)
 words-run (t ∷ ts) [] e = absurd (cc)
@@ -41,15 +41,15 @@ words-run (t ∷ ts) (u ∷ us) e =
     let left = words-length ts us (rest_words e) in
     λ i room st. went (move (first_word e i) st) room (behind i) (suc (left i))
 
-pub words-verdict : (toks others : List Tok) → words_of toks ≡ words_of others → verdict toks ≡ verdict others
+pub words-verdict : (toks others : List Lexed) → words_of toks ≡ words_of others → verdict toks ≡ verdict others
 words-verdict toks others e = λ i. words-run toks others e i 64 (N.Decl' ∷ [])
 
 -- without their places tokens are what their words are
-pub words-unplaced : (toks others : List Tok) → words_of toks ≡ words_of others → map unplaced_tok toks ≡ map unplaced_tok others
+pub words-unplaced : (toks others : List Lexed) → words_of toks ≡ words_of others → map unplaced_tok toks ≡ map unplaced_tok others
 words-unplaced [] [] e = refl
 words-unplaced [] (u ∷ us) e = absurd (cc)
 words-unplaced (t ∷ ts) [] e = absurd (cc)
-words-unplaced (t ∷ ts) (u ∷ us) e = λ i. record { word = first_word e i; at = no_place } ∷ words-unplaced ts us (rest_words e) i
+words-unplaced (t ∷ ts) (u ∷ us) e = λ i. record { lexeme = first_word e i; at = no_place } ∷ words-unplaced ts us (rest_words e) i
 
 -- programs with the same words are the same without their places
 pub forms-unplaced : (c d : ProgramForm) → words_of (program_text c []) ≡ words_of (program_text d []) → unplaced_program_form c ≡ unplaced_program_form d
@@ -61,7 +61,7 @@ pub decls-unplaced : (c d : ProgramForm) → words_of (program_text c []) ≡ wo
 decls-unplaced c d e = sym (decls_tree-unplaced c) ∙ (ap decls_tree (forms-unplaced c d e) ∙ decls_tree-unplaced d)
 
 -- Tokens with the same words are a program of the same tree, places aside.
-pub same_words : (toks others : List Tok) (tree : ProgramTree) → map (λ (t : Tok). t.word) toks ≡ map (λ (t : Tok). t.word) others → HasTree toks tree → IsShallow toks
+pub same_words : (toks others : List Lexed) (tree : ProgramTree) → map (λ (t : Lexed). t.lexeme) toks ≡ map (λ (t : Lexed). t.lexeme) others → HasTree toks tree → IsShallow toks
     → (again : ProgramTree) × HasTree others again × IsShallow others × (unplaced_program again ≡ unplaced_program tree)
 same_words toks others tree e h shallow =
     let program : IsProgram others × IsShallow others = (verdict-accept others).0 (sym (words-verdict toks others e) ∙ (verdict-accept toks).1 (h.0, shallow)) in

@@ -8,22 +8,23 @@ use Rattle.tw_text.specs.declared.refusal.Fault.TheVariants as fault
 use Rattle.tw_text.specs.declared.refusal.Rule.TheVariants as rule
 use Rattle.tw_text.specs.Places.{first_place}
 use Rattle.tw_lex.specs.Scans.{IsNoToken}
-use Rattle.tw_lex.proofs.Splits.{no_reading}
+use Rattle.tw_lex.proofs.Splits.{one_reading, no_reading}
 use Rattle.tw_lex.proofs.Endings.{one_refusal}
 use Rattle.tw_syntax.specs.Programs.{ProgramTree}
 use Rattle.tw_parse.specs.declared.stop.Halt.{Halt}
 use Rattle.tw_parse.specs.declared.stop.Halt.TheVariants.{Syntax, Nesting}
-use Rattle.tw_parse.specs.Words.{Tok}
+use Rattle.tw_lex.specs.Tokens.{Lexed, HasTokens}
 use Rattle.tw_parse.specs.Trees.{HasTree}
 use Rattle.tw_parse.specs.Whole.{IsShallow, IsSyntaxAt, IsTooDeepAt}
-use Rattle.tw_parse.specs.Lexed.{HasToks}
 use Rattle.tw_parse.specs.ReadingStatements.{whole_at}
 use Rattle.tw_parse.specs.Parsed.{IsNoText, IsParsed, IsStopped, NoText, NoToken, Halted, IsFault, refusal_of, end_of}
 use Rattle.tw_parse.specs.Sources.{IsNoProgram, IsTooDeep, IsSource, IsRefused, Utf8, Token, Program, Depth}
-use Rattle.tw_parse.proofs.tokens.Lexings.{one_toks}
 use Rattle.tw_parse.proofs.forms.OneProgram.{tree-same}
 use Rattle.tw_parse.proofs.reading.Readings.{read-tree, read-syntax, read-nesting}
 use Rattle.tw_parse.proofs.machine.Verdicts.{program-not_syntax, shallow-not_deep, syntax-same, deep-same, syntax-not_deep}
+
+one_toks : (cs : List ℕ) (ts us : List Lexed) → HasTokens cs first_place ts → HasTokens cs first_place us → ts ≡ us
+one_toks cs ts us a b = one_reading cs first_place us ts b a
 
 pub source_of : (bytes : List ℕ) (tree : ProgramTree) → IsParsed bytes tree → IsSource bytes tree
 source_of bytes tree p =
@@ -31,9 +32,9 @@ source_of bytes tree p =
 
 pub one_source : (bytes : List ℕ) (tree other : ProgramTree) → IsSource bytes tree → IsSource bytes other → other ≡ tree
 one_source bytes tree other s o =
-    tree-same s.toks other tree (subst (λ (ts : List Tok). HasTree ts other) (one_toks (chars bytes) o.toks s.toks o.has s.has) o.has_tree) s.has_tree
+    tree-same s.toks other tree (subst (λ (ts : List Lexed). HasTree ts other) (one_toks (chars bytes) o.toks s.toks o.has s.has) o.has_tree) s.has_tree
 
-halted_at : (bytes : List ℕ) (refusal : Refusal) (toks : List Tok) (halt : Halt) → IsUtf8 bytes → HasToks (chars bytes) toks → whole_at toks ≡ Err halt
+halted_at : (bytes : List ℕ) (refusal : Refusal) (toks : List Lexed) (halt : Halt) → IsUtf8 bytes → HasTokens (chars bytes) first_place toks → whole_at toks ≡ Err halt
     → refusal ≡ refusal_of halt toks (end_of bytes) → IsRefused bytes refusal
 halted_at bytes refusal toks (Syntax left) text has reads is =
     Program (record { text = text; toks = toks; left = left; has = has; syntax = read-syntax toks left reads; is = is })
@@ -54,9 +55,9 @@ no_text bytes count v text = v.longest (length bytes) v.short (subst IsUtf8 (sym
 -- a source with a tree is not refused
 pub apart : (bytes : List ℕ) (tree : ProgramTree) (refusal : Refusal) → IsSource bytes tree → IsRefused bytes refusal → ⊥
 apart bytes tree refusal s (Utf8 n) = no_text bytes n.count n.valid s.text
-apart bytes tree refusal s (Token text n) = no_reading (chars bytes) first_place refusal.at s.has.lexed n.stops s.has.splits
+apart bytes tree refusal s (Token text n) = no_reading (chars bytes) first_place refusal.at s.toks n.stops s.has
 apart bytes tree refusal s (Program n) =
-    program-not_syntax n.toks n.left (subst (λ (ts : List Tok). HasTree ts tree) (one_toks (chars bytes) s.toks n.toks s.has n.has) s.has_tree).0 n.syntax
+    program-not_syntax n.toks n.left (subst (λ (ts : List Lexed). HasTree ts tree) (one_toks (chars bytes) s.toks n.toks s.has n.has) s.has_tree).0 n.syntax
 apart bytes tree refusal s (Depth n) =
     shallow-not_deep n.toks n.left (subst IsShallow (one_toks (chars bytes) s.toks n.toks s.has n.has) s.shallow) n.nesting
 
@@ -72,21 +73,21 @@ no_text_same bytes r other n m =
 no_program_same : (bytes : List ℕ) (r other : Refusal) → IsNoProgram bytes r → IsNoProgram bytes other → other ≡ r
 no_program_same bytes r other n m =
     let toks = one_toks (chars bytes) m.toks n.toks m.has n.has in
-    let left : m.left ≡ n.left = syntax-same n.toks m.left n.left (subst (λ (ts : List Tok). IsSyntaxAt ts m.left) toks m.syntax) n.syntax in
-    m.is ∙ ap (λ (k : ℕ). refusal_of (Syntax k) m.toks (end_of bytes)) left ∙ ap (λ (ts : List Tok). refusal_of (Syntax n.left) ts (end_of bytes)) toks ∙ sym n.is
+    let left : m.left ≡ n.left = syntax-same n.toks m.left n.left (subst (λ (ts : List Lexed). IsSyntaxAt ts m.left) toks m.syntax) n.syntax in
+    m.is ∙ ap (λ (k : ℕ). refusal_of (Syntax k) m.toks (end_of bytes)) left ∙ ap (λ (ts : List Lexed). refusal_of (Syntax n.left) ts (end_of bytes)) toks ∙ sym n.is
 
 too_deep_same : (bytes : List ℕ) (r other : Refusal) → IsTooDeep bytes r → IsTooDeep bytes other → other ≡ r
 too_deep_same bytes r other n m =
     let toks = one_toks (chars bytes) m.toks n.toks m.has n.has in
-    let left : m.left ≡ n.left = deep-same n.toks m.left n.left (subst (λ (ts : List Tok). IsTooDeepAt ts m.left) toks m.nesting) n.nesting in
-    m.is ∙ ap (λ (k : ℕ). refusal_of (Nesting k) m.toks (end_of bytes)) left ∙ ap (λ (ts : List Tok). refusal_of (Nesting n.left) ts (end_of bytes)) toks ∙ sym n.is
+    let left : m.left ≡ n.left = deep-same n.toks m.left n.left (subst (λ (ts : List Lexed). IsTooDeepAt ts m.left) toks m.nesting) n.nesting in
+    m.is ∙ ap (λ (k : ℕ). refusal_of (Nesting k) m.toks (end_of bytes)) left ∙ ap (λ (ts : List Lexed). refusal_of (Nesting n.left) ts (end_of bytes)) toks ∙ sym n.is
 
 not_both : (bytes : List ℕ) (r other : Refusal) → IsNoProgram bytes r → IsTooDeep bytes other → ⊥
 not_both bytes r other n m =
-    syntax-not_deep m.toks n.left m.left (subst (λ (ts : List Tok). IsSyntaxAt ts n.left) (one_toks (chars bytes) n.toks m.toks n.has m.has) n.syntax) m.nesting
+    syntax-not_deep m.toks n.left m.left (subst (λ (ts : List Lexed). IsSyntaxAt ts n.left) (one_toks (chars bytes) n.toks m.toks n.has m.has) n.syntax) m.nesting
 
-no_token_in : (bytes : List ℕ) (r : Refusal) (toks : List Tok) → IsNoToken (chars bytes) r → HasToks (chars bytes) toks → ⊥
-no_token_in bytes r toks n has = no_reading (chars bytes) first_place r.at has.lexed n.stops has.splits
+no_token_in : (bytes : List ℕ) (r : Refusal) (toks : List Lexed) → IsNoToken (chars bytes) r → HasTokens (chars bytes) first_place toks → ⊥
+no_token_in bytes r toks n has = no_reading (chars bytes) first_place r.at toks n.stops has
 
 -- a source is refused in one way
 pub one_source_refusal : (bytes : List ℕ) (r other : Refusal) → IsRefused bytes r → IsRefused bytes other → other ≡ r

@@ -1,14 +1,11 @@
-pub mod Words
 pub mod Grammar
 pub mod Statements
 pub mod Whole
 pub mod Trees
-pub mod Items
 pub mod Steps
 pub mod Reading
 pub mod ReadingStatements
 pub mod Parts
-pub mod Lexed
 pub mod Parsed
 pub mod Machine
 pub mod Sources

@@ -1,26 +1,26 @@
 -- Which tokens may stand next: a stack of what is still awaited, and what the next token makes of it.
 use Rattle.std.specs.Prelude.{◌≡◌, refl, ℕ, zero, suc, Bool, true, false, List, [], ◌∷◌, length, codes}
 use Rattle.tw_text.specs.declared.place.Pos.{Pos}
-use Rattle.tw_parse.specs.declared.word.Mark.{Mark}
-use Rattle.tw_parse.specs.declared.word.Mark.TheVariants as m
-use Rattle.tw_parse.specs.Words.{W, Name, Number, Sign, Tok, name_at, sign_at}
+use Rattle.tw_lex.specs.declared.symbol.Symbol.{Symbol}
+use Rattle.tw_lex.specs.declared.symbol.Symbol.TheVariants as symbols
+use Rattle.tw_lex.specs.Tokens.{Lexeme, Name, Number, Sign, Lexed, name_at, sign_at}
 use Rattle.tw_parse.specs.Whole.{closes}
 use Rattle.tw_parse.specs.Steps.{is_mark, is_step, is_small}
 
 -- a mark that may be awaited alone: it opens no bracket, announces none, and goes on with no path
-abbrev pub stands_alone : Mark → Bool
-stands_alone m.Open = false
-stands_alone m.OpenBrace = false
-stands_alone m.Ptr = false
-stands_alone m.Null = false
-stands_alone m.Default = false
-stands_alone m.Alloc = false
-stands_alone m.Dot = false
+abbrev pub stands_alone : Symbol → Bool
+stands_alone symbols.OpenParen = false
+stands_alone symbols.OpenBrace = false
+stands_alone symbols.Ptr = false
+stands_alone symbols.Null = false
+stands_alone symbols.Default = false
+stands_alone symbols.Alloc = false
+stands_alone symbols.Dot = false
 stands_alone mark = true
 
 -- what is awaited
 pub data N : Type 0 where
-  TheMark : (mark : Mark) (alone : stands_alone mark ≡ true) → N
+  TheMark : (mark : Symbol) (alone : stands_alone mark ≡ true) → N
   Name' : N
   -- 1 or 2
   Step' : N
@@ -104,57 +104,57 @@ abbrev pub taken_mark : Bool → List N → Next
 taken_mark true st = Shut st
 taken_mark false st = Take st
 
-abbrev pub next_mark : Mark → W → List N → Next
+abbrev pub next_mark : Symbol → Lexeme → List N → Next
 next_mark mark w st = when (is_mark mark w) (taken_mark (closes (Sign mark)) st)
 
 -- what a word makes of a type, an atom, an expression, what may follow an atom, and a statement: the table below has
 -- each of them more than once
-abbrev pub next_type : W → List N → Next
-next_type (Sign m.Uint) st = Take st
-next_type (Sign m.Bool) st = Take st
+abbrev pub next_type : Lexeme → List N → Next
+next_type (Sign symbols.Uint) st = Take st
+next_type (Sign symbols.Bool) st = Take st
 next_type (Name text) st = Take st
-next_type (Sign m.Ptr) st = Take (Angled' ∷ st)
-next_type (Sign m.Open) st = Open (Paren' ∷ st)
+next_type (Sign symbols.Ptr) st = Take (Angled' ∷ st)
+next_type (Sign symbols.OpenParen) st = Open (Paren' ∷ st)
 next_type w st = Stop
 
-abbrev pub next_atom : W → List N → Next
+abbrev pub next_atom : Lexeme → List N → Next
 next_atom (Name text) st = Take (Steps' ∷ st)
 next_atom (Number value) st = Take st
-next_atom (Sign m.True) st = Take st
-next_atom (Sign m.False) st = Take st
-next_atom (Sign m.Open) st = Open (TheMark m.Close refl ∷ st)
-next_atom (Sign m.Null) st = Take (Angled' ∷ st)
-next_atom (Sign m.Default) st = Take (Angled' ∷ st)
+next_atom (Sign symbols.True) st = Take st
+next_atom (Sign symbols.False) st = Take st
+next_atom (Sign symbols.OpenParen) st = Open (TheMark symbols.CloseParen refl ∷ st)
+next_atom (Sign symbols.Null) st = Take (Angled' ∷ st)
+next_atom (Sign symbols.Default) st = Take (Angled' ∷ st)
 next_atom w st = Stop
 
-abbrev pub next_expr : W → List N → Next
-next_expr (Sign m.Not) st = Take (Atom' ∷ st)
-next_expr (Sign m.Open) st = Open (ExprParen' ∷ st)
+abbrev pub next_expr : Lexeme → List N → Next
+next_expr (Sign symbols.Not) st = Take (Atom' ∷ st)
+next_expr (Sign symbols.OpenParen) st = Open (ExprParen' ∷ st)
 next_expr w st = next_atom w (OpTail' ∷ st)
 
-abbrev pub next_op_tail : W → List N → Next
-next_op_tail (Sign m.Plus) st = Take (Atom' ∷ st)
-next_op_tail (Sign m.Minus) st = Take (Atom' ∷ st)
-next_op_tail (Sign m.Star) st = Take (Atom' ∷ st)
-next_op_tail (Sign m.Less) st = Take (Atom' ∷ st)
-next_op_tail (Sign m.Same) st = Take (Atom' ∷ st)
-next_op_tail (Sign m.Other) st = Take (Atom' ∷ st)
-next_op_tail (Sign m.Both) st = Take (Atom' ∷ st)
-next_op_tail (Sign m.Either) st = Take (Atom' ∷ st)
+abbrev pub next_op_tail : Lexeme → List N → Next
+next_op_tail (Sign symbols.Plus) st = Take (Atom' ∷ st)
+next_op_tail (Sign symbols.Minus) st = Take (Atom' ∷ st)
+next_op_tail (Sign symbols.Star) st = Take (Atom' ∷ st)
+next_op_tail (Sign symbols.Less) st = Take (Atom' ∷ st)
+next_op_tail (Sign symbols.Equal) st = Take (Atom' ∷ st)
+next_op_tail (Sign symbols.NotEqual) st = Take (Atom' ∷ st)
+next_op_tail (Sign symbols.And) st = Take (Atom' ∷ st)
+next_op_tail (Sign symbols.Or) st = Take (Atom' ∷ st)
 next_op_tail w st = Pop
 
-abbrev pub next_stmt : W → List N → Next
-next_stmt (Sign m.Let) st = Take (Name' ∷ LetArrow' ∷ Rhs' ∷ TheMark m.Semicolon refl ∷ st)
-next_stmt (Name text) st = Take (Steps' ∷ TheMark m.Exchange refl ∷ Path' ∷ TheMark m.Semicolon refl ∷ st)
-next_stmt (Sign m.Star) st = Take (Path' ∷ TheMark m.Exchange refl ∷ Path' ∷ TheMark m.Semicolon refl ∷ st)
-next_stmt (Sign m.If) st = Take (Path' ∷ Block' ∷ ElseTail' ∷ st)
-next_stmt (Sign m.With) st = Take (Block' ∷ TheMark m.Do refl ∷ Block' ∷ st)
-next_stmt (Sign m.OpenBrace) st = Open (Stmts' ∷ st)
-next_stmt (Sign m.Skip) st = Take (TheMark m.Semicolon refl ∷ st)
+abbrev pub next_stmt : Lexeme → List N → Next
+next_stmt (Sign symbols.Let) st = Take (Name' ∷ LetArrow' ∷ Rhs' ∷ TheMark symbols.Semicolon refl ∷ st)
+next_stmt (Name text) st = Take (Steps' ∷ TheMark symbols.Swap refl ∷ Path' ∷ TheMark symbols.Semicolon refl ∷ st)
+next_stmt (Sign symbols.Star) st = Take (Path' ∷ TheMark symbols.Swap refl ∷ Path' ∷ TheMark symbols.Semicolon refl ∷ st)
+next_stmt (Sign symbols.If) st = Take (Path' ∷ Block' ∷ ElseTail' ∷ st)
+next_stmt (Sign symbols.With) st = Take (Block' ∷ TheMark symbols.Do refl ∷ Block' ∷ st)
+next_stmt (Sign symbols.OpenBrace) st = Open (Stmts' ∷ st)
+next_stmt (Sign symbols.Skip) st = Take (TheMark symbols.Semicolon refl ∷ st)
 next_stmt w st = Stop
 
 -- what a word makes of the first that is awaited, with what is awaited behind it
-abbrev pub next : N → W → List N → Next
+abbrev pub next : N → Lexeme → List N → Next
 next (TheMark mark alone) w st = next_mark mark w st
 next Name' (Name text) st = Take st
 next Name' w st = Stop
@@ -162,67 +162,67 @@ next Step' (Number value) st = when (is_step value) (Take st)
 next Step' w st = Stop
 next Small' (Number value) st = when (is_small value) (Take st)
 next Small' w st = Stop
-next Angled' (Sign m.Less) st = Open (Type' ∷ TheMark m.More refl ∷ st)
+next Angled' (Sign symbols.Less) st = Open (Type' ∷ TheMark symbols.Greater refl ∷ st)
 next Angled' w st = Stop
 next Type' w st = next_type w st
-next Paren' (Sign m.Close) st = Shut st
-next Paren' w st = next_type w (TheMark m.Comma refl ∷ Type' ∷ TheMark m.Close refl ∷ st)
+next Paren' (Sign symbols.CloseParen) st = Shut st
+next Paren' w st = next_type w (TheMark symbols.Comma refl ∷ Type' ∷ TheMark symbols.CloseParen refl ∷ st)
 next Path' (Name text) st = Take (Steps' ∷ st)
 next Path' w st = Stop
-next Steps' (Sign m.Dot) st = Take (Step' ∷ Steps' ∷ st)
+next Steps' (Sign symbols.Dot) st = Take (Step' ∷ Steps' ∷ st)
 next Steps' w st = Pop
 next Atom' w st = next_atom w st
 next Expr' w st = next_expr w st
-next ExprParen' (Sign m.Close) st = Shut (OpTail' ∷ st)
-next ExprParen' w st = next_atom w (TheMark m.Comma refl ∷ Atom' ∷ TheMark m.Close refl ∷ st)
+next ExprParen' (Sign symbols.CloseParen) st = Shut (OpTail' ∷ st)
+next ExprParen' w st = next_atom w (TheMark symbols.Comma refl ∷ Atom' ∷ TheMark symbols.CloseParen refl ∷ st)
 next OpTail' w st = next_op_tail w st
-next Rhs' (Sign m.Alloc) st = Take (Angled' ∷ st)
+next Rhs' (Sign symbols.Alloc) st = Take (Angled' ∷ st)
 next Rhs' (Name text) st = Take (AfterName' ∷ st)
 next Rhs' w st = next_expr w st
-next AfterName' (Sign m.Dot) st = Take (Step' ∷ Steps' ∷ OpTail' ∷ st)
-next AfterName' (Sign m.OpenBracket) st = Take (Bound' ∷ TheMark m.CloseBracket refl ∷ CallArgs' ∷ st)
-next AfterName' (Sign m.Open) st = Open (Args' ∷ st)
+next AfterName' (Sign symbols.Dot) st = Take (Step' ∷ Steps' ∷ OpTail' ∷ st)
+next AfterName' (Sign symbols.OpenBracket) st = Take (Bound' ∷ TheMark symbols.CloseBracket refl ∷ CallArgs' ∷ st)
+next AfterName' (Sign symbols.OpenParen) st = Open (Args' ∷ st)
 next AfterName' w st = next_op_tail w st
 next Bound' (Number value) st = when (is_small value) (Take st)
 next Bound' (Name text) st = Take (BoundTail' ∷ st)
 next Bound' w st = Stop
-next BoundTail' (Sign m.Minus) st = Take (Small' ∷ st)
+next BoundTail' (Sign symbols.Minus) st = Take (Small' ∷ st)
 next BoundTail' w st = Pop
-next CallArgs' (Sign m.Open) st = Open (Args' ∷ st)
+next CallArgs' (Sign symbols.OpenParen) st = Open (Args' ∷ st)
 next CallArgs' w st = Stop
-next Args' (Sign m.Close) st = Shut st
+next Args' (Sign symbols.CloseParen) st = Shut st
 next Args' (Name text) st = Take (MoreArgs' ∷ st)
 next Args' w st = Stop
-next MoreArgs' (Sign m.Comma) st = Take (Name' ∷ MoreArgs' ∷ st)
-next MoreArgs' (Sign m.Close) st = Shut st
+next MoreArgs' (Sign symbols.Comma) st = Take (Name' ∷ MoreArgs' ∷ st)
+next MoreArgs' (Sign symbols.CloseParen) st = Shut st
 next MoreArgs' w st = Stop
 next Stmt' w st = next_stmt w st
-next LetArrow' (Sign m.Gets) st = Take st
-next LetArrow' (Sign m.Arrow) st = Take st
+next LetArrow' (Sign symbols.Assign) st = Take st
+next LetArrow' (Sign symbols.Arrow) st = Take st
 next LetArrow' w st = Stop
-next Stmts' (Sign m.CloseBrace) st = Shut st
+next Stmts' (Sign symbols.CloseBrace) st = Shut st
 next Stmts' w st = next_stmt w (Stmts' ∷ st)
-next ElseTail' (Sign m.Else) st = Take (Block' ∷ st)
+next ElseTail' (Sign symbols.Else) st = Take (Block' ∷ st)
 next ElseTail' w st = Pop
-next Block' (Sign m.OpenBrace) st = Open (Stmts' ∷ st)
+next Block' (Sign symbols.OpenBrace) st = Open (Stmts' ∷ st)
 next Block' w st = Stop
-next Body' (Sign m.Return) st = Take (Name' ∷ TheMark m.Semicolon refl ∷ TheMark m.CloseBrace refl ∷ st)
+next Body' (Sign symbols.Return) st = Take (Name' ∷ TheMark symbols.Semicolon refl ∷ TheMark symbols.CloseBrace refl ∷ st)
 next Body' w st = next_stmt w (Body' ∷ st)
-next FunBody' (Sign m.OpenBrace) st = Open (Body' ∷ st)
+next FunBody' (Sign symbols.OpenBrace) st = Open (Body' ∷ st)
 next FunBody' w st = Stop
-next AfterFunName' (Sign m.OpenBracket) st = Take (Name' ∷ TheMark m.CloseBracket refl ∷ FunParams' ∷ st)
-next AfterFunName' (Sign m.Open) st = Open (Params' ∷ st)
+next AfterFunName' (Sign symbols.OpenBracket) st = Take (Name' ∷ TheMark symbols.CloseBracket refl ∷ FunParams' ∷ st)
+next AfterFunName' (Sign symbols.OpenParen) st = Open (Params' ∷ st)
 next AfterFunName' w st = Stop
-next FunParams' (Sign m.Open) st = Open (Params' ∷ st)
+next FunParams' (Sign symbols.OpenParen) st = Open (Params' ∷ st)
 next FunParams' w st = Stop
-next Params' (Sign m.Close) st = Shut st
-next Params' (Name text) st = Take (TheMark m.Colon refl ∷ Type' ∷ MoreParams' ∷ st)
+next Params' (Sign symbols.CloseParen) st = Shut st
+next Params' (Name text) st = Take (TheMark symbols.Colon refl ∷ Type' ∷ MoreParams' ∷ st)
 next Params' w st = Stop
-next MoreParams' (Sign m.Comma) st = Take (Name' ∷ TheMark m.Colon refl ∷ Type' ∷ MoreParams' ∷ st)
-next MoreParams' (Sign m.Close) st = Shut st
+next MoreParams' (Sign symbols.Comma) st = Take (Name' ∷ TheMark symbols.Colon refl ∷ Type' ∷ MoreParams' ∷ st)
+next MoreParams' (Sign symbols.CloseParen) st = Shut st
 next MoreParams' w st = Stop
-next Decl' (Sign m.Type) st = Take (Name' ∷ TheMark m.Is refl ∷ Type' ∷ TheMark m.Semicolon refl ∷ st)
-next Decl' (Sign m.Fun) st = Take (Name' ∷ AfterFunName' ∷ TheMark m.Arrow refl ∷ Type' ∷ FunBody' ∷ st)
+next Decl' (Sign symbols.Type) st = Take (Name' ∷ TheMark symbols.Define refl ∷ Type' ∷ TheMark symbols.Semicolon refl ∷ st)
+next Decl' (Sign symbols.Fun) st = Take (Name' ∷ AfterFunName' ∷ TheMark symbols.Arrow refl ∷ Type' ∷ FunBody' ∷ st)
 next Decl' w st = Stop
 
 -- a word that belongs to what is awaited behind is seen there
@@ -231,7 +231,7 @@ settled Pop behind = behind
 settled now behind = now
 
 -- what a word makes of a stack; behind a program a further declaration may stand
-abbrev pub move : W → List N → Next
+abbrev pub move : Lexeme → List N → Next
 move w [] = next Decl' w []
 move w (n ∷ st) = settled (next n w st) (move w st)
 
@@ -260,32 +260,32 @@ went Pop room go left = Fail left
 went Stop room go left = Fail left
 
 -- what tokens come to, with room for so many more brackets, where these are awaited
-abbrev pub run : List Tok → ℕ → List N → Outcome
+abbrev pub run : List Lexed → ℕ → List N → Outcome
 run [] room st = at_end st
-run (t ∷ ts) room st = went (move t.word st) room (run ts) (suc (length ts))
+run (t ∷ ts) room st = went (move t.lexeme st) room (run ts) (suc (length ts))
 
 -- what the tokens of a whole text come to
-abbrev pub verdict : List Tok → Outcome
+abbrev pub verdict : List Lexed → Outcome
 verdict toks = run toks 64 (Decl' ∷ [])
 
 abbrev pub here : Pos
 here = record { line = 1; col = 1 }
 
-abbrev pub alias : List Tok → List Tok
-alias body = sign_at m.Type here ∷ name_at (codes "a") here ∷ sign_at m.Is here ∷ body
+abbrev pub alias : List Lexed → List Lexed
+alias body = sign_at symbols.Type here ∷ name_at (codes "a") here ∷ sign_at symbols.Define here ∷ body
 
 -- so many "(" in front of a type
-abbrev pub nested : ℕ → List Tok
-nested zero = sign_at m.Close here ∷ []
-nested (suc n) = sign_at m.Open here ∷ nested n
+abbrev pub nested : ℕ → List Lexed
+nested zero = sign_at symbols.CloseParen here ∷ []
+nested (suc n) = sign_at symbols.OpenParen here ∷ nested n
 
 pub verdict_empty : verdict [] ≡ Fail 0
 verdict_empty = refl
 
-pub verdict_alias : verdict (alias (sign_at m.Uint here ∷ sign_at m.Semicolon here ∷ [])) ≡ Accept
+pub verdict_alias : verdict (alias (sign_at symbols.Uint here ∷ sign_at symbols.Semicolon here ∷ [])) ≡ Accept
 verdict_alias = refl
 
-pub verdict_no_type : verdict (alias (sign_at m.Semicolon here ∷ [])) ≡ Fail 1
+pub verdict_no_type : verdict (alias (sign_at symbols.Semicolon here ∷ [])) ≡ Fail 1
 verdict_no_type = refl
 
 pub verdict_64 : verdict (alias (nested 64)) ≡ Fail 0

@@ -14,22 +14,21 @@ use Rattle.tw_parse.specs.declared.stop.Halt.{Halt}
 use Rattle.tw_parse.specs.declared.stop.Stop.{Stop}
 use Rattle.tw_parse.specs.declared.stop.Stop.TheVariants as stop
 use Rattle.tw_parse.specs.declared.stop.Halt.TheVariants.{Syntax, Nesting}
-use Rattle.tw_parse.specs.declared.word.Mark.TheVariants as m
-use Rattle.tw_parse.specs.Words.{Tok, sign_at}
-use Rattle.tw_parse.specs.Lexed.{HasToks}
+use Rattle.tw_lex.specs.declared.symbol.Symbol.TheVariants as symbols
+use Rattle.tw_lex.specs.Tokens.{Lexed, sign_at, HasTokens}
 use Rattle.tw_parse.specs.ReadingStatements.{whole_at}
 
 -- the place of the first token, or the place behind all of them
-abbrev pub place_or : List Tok → Pos → Pos
+abbrev pub place_or : List Lexed → Pos → Pos
 place_or [] end = end
 place_or (t ∷ ts) end = t.at
 
 -- the place of the first of so many last tokens
-abbrev pub place_left : List Tok → ℕ → Pos → Pos
+abbrev pub place_left : List Lexed → ℕ → Pos → Pos
 place_left toks left end = place_or (drop (length toks - left) toks) end
 
 -- how a source is refused whose tokens, with this end, are wrong
-abbrev pub refusal_of : Halt → List Tok → Pos → Refusal
+abbrev pub refusal_of : Halt → List Lexed → Pos → Refusal
 refusal_of (Syntax left) toks end = record { rule = rule.Syntax; at = place_left toks left end; found = 0; limit = 0 }
 refusal_of (Nesting left) toks end = record { rule = rule.Limit counted.Nesting; at = place_left toks left end; found = 65; limit = 64 }
 
@@ -40,8 +39,8 @@ end_of bytes = after_chars first_place (chars bytes)
 -- the source has this tree
 pub record IsParsed (bytes : List ℕ) (tree : ProgramTree) : Type 0 where
   pub text : IsUtf8 bytes
-  pub toks : List Tok
-  pub has : HasToks (chars bytes) toks
+  pub toks : List Lexed
+  pub has : HasTokens (chars bytes) first_place toks
   pub reads : whole_at toks ≡ Ok tree
 
 -- the source is no text from a place on
@@ -53,9 +52,9 @@ pub record IsNoText (bytes : List ℕ) (refusal : Refusal) : Type 0 where
 -- the source's tokens are wrong
 pub record IsHalted (bytes : List ℕ) (refusal : Refusal) : Type 0 where
   pub text : IsUtf8 bytes
-  pub toks : List Tok
+  pub toks : List Lexed
   pub halt : Halt
-  pub has : HasToks (chars bytes) toks
+  pub has : HasTokens (chars bytes) first_place toks
   pub reads : whole_at toks ≡ Err halt
   pub is : refusal ≡ refusal_of halt toks (end_of bytes)
 
@@ -71,7 +70,7 @@ IsFault bytes fault.Memory = Unit {0}
 IsFault bytes (fault.Refused refusal) = IsStopped bytes refusal
 
 -- the fault for a stop over these tokens
-abbrev pub fault_of : Stop → List Tok → Pos → Fault
+abbrev pub fault_of : Stop → List Lexed → Pos → Fault
 fault_of stop.Memory toks end = fault.Memory
 fault_of (stop.Halt halt) toks end = fault.Refused (refusal_of halt toks end)
 
@@ -80,8 +79,8 @@ abbrev pub IsNoTextFault : List ℕ → Fault → Type 0
 IsNoTextFault bytes fault.Memory = ⊥
 IsNoTextFault bytes (fault.Refused refusal) = IsNoText bytes refusal
 
-pub place_left-last : (p q end : Pos) → place_left (sign_at m.Open p ∷ sign_at m.Close q ∷ []) 1 end ≡ q
+pub place_left-last : (p q end : Pos) → place_left (sign_at symbols.OpenParen p ∷ sign_at symbols.CloseParen q ∷ []) 1 end ≡ q
 place_left-last p q end = refl
 
-pub place_left-end : (p end : Pos) → place_left (sign_at m.Open p ∷ []) 0 end ≡ end
+pub place_left-end : (p end : Pos) → place_left (sign_at symbols.OpenParen p ∷ []) 0 end ≡ end
 place_left-end p end = refl

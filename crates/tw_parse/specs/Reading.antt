@@ -2,28 +2,28 @@
 use Rattle.tw_parse.specs.Trees.{named}
 use Rattle.std.specs.Prelude.{ℕ, zero, suc, Bool, ◌&&◌, ◌||◌, if◌then◌else◌, List, [], ◌∷◌, Option, Some, None, Ok, Err, ◌≡◌, codes, refl}
 use Rattle.tw_text.specs.declared.place.Pos.{Pos}
-use Rattle.tw_parse.specs.declared.word.Mark.TheVariants as m
+use Rattle.tw_lex.specs.declared.symbol.Symbol.TheVariants as symbols
 use Rattle.tw_parse.specs.declared.stop.Halt.TheVariants.{Syntax, Nesting}
 use Rattle.tw_syntax.specs.declared.term.OpKind.{OpKind}
 use Rattle.tw_syntax.specs.declared.term.OpKind.TheVariants as kind
 use Rattle.tw_syntax.specs.Names.{NameTree, PathTree}
 use Rattle.tw_syntax.specs.Types.{WrittenTree, UnitType, UintType, BoolType, PairType, PtrType, NamedType}
 use Rattle.tw_syntax.specs.Terms.{AtomTree, PlaceAtom, NumberAtom, TrueAtom, FalseAtom, UnitAtom, NullAtom, ZeroAtom, ExprTree, OneExpr, TwoExpr, NotExpr, OpExpr, BoundTree, FixedBound, SameBound, LessBound, RhsTree, ExprRhs, CallRhs, AllocRhs}
-use Rattle.tw_parse.specs.Words.{Tok, name_at, sign_at}
+use Rattle.tw_lex.specs.Tokens.{Lexed, name_at, sign_at}
 use Rattle.tw_parse.specs.Steps.{Reader, ◌>>=◌, leads, leads_name, leads_number, behind, place_at, take_mark, take_open, take_name, take_number, take_small, take_half, all_at}
 
 -- "<" type ">"
 unfoldable pub angle_with : Reader WrittenTree → ℕ → Reader WrittenTree
 angle_with inner room ts = do
-  less ← take_open m.Less room ts
+  less ← take_open symbols.Less room ts
   to ← inner less.1
-  more ← take_mark m.More to.1
+  more ← take_mark symbols.Greater to.1
   Ok (to.0, more.1)
 
 -- "ptr" "<" type ">"
 unfoldable pub ptr_with : Reader WrittenTree → ℕ → Reader WrittenTree
 ptr_with inner room ts = do
-  at ← take_mark m.Ptr ts
+  at ← take_mark symbols.Ptr ts
   to ← angle_with inner room at.1
   Ok (PtrType at.0 to.0, to.1)
 
@@ -31,34 +31,34 @@ ptr_with inner room ts = do
 unfoldable pub pair_with : Reader WrittenTree → Pos → Reader WrittenTree
 pair_with inner at ts = do
   first ← inner ts
-  comma ← take_mark m.Comma first.1
+  comma ← take_mark symbols.Comma first.1
   second ← inner comma.1
-  close ← take_mark m.Close second.1
+  close ← take_mark symbols.CloseParen second.1
   Ok (PairType at first.0 second.0, close.1)
 
 -- "(" ")" | "(" type "," type ")"
 unfoldable pub paren_with : Reader WrittenTree → ℕ → Reader WrittenTree
 paren_with inner room ts = do
-  begin ← take_open m.Open room ts
-  if leads m.Close begin.1 then (do
-    close ← take_mark m.Close begin.1
+  begin ← take_open symbols.OpenParen room ts
+  if leads symbols.CloseParen begin.1 then (do
+    close ← take_mark symbols.CloseParen begin.1
     Ok (UnitType begin.0, close.1)) else pair_with inner begin.0 begin.1
 
 -- "uint" | "bool" | name
 unfoldable pub plain_type_at : Reader WrittenTree
-plain_type_at ts = if leads m.Uint ts then (do
-  at ← take_mark m.Uint ts
+plain_type_at ts = if leads symbols.Uint ts then (do
+  at ← take_mark symbols.Uint ts
   Ok (UintType at.0, at.1))
-    else if leads m.Bool ts then (do
-      at ← take_mark m.Bool ts
+    else if leads symbols.Bool ts then (do
+      at ← take_mark symbols.Bool ts
       Ok (BoolType at.0, at.1))
     else (do
       name ← take_name ts
       Ok (NamedType name.0.at name.0.text, name.1))
 
 unfoldable pub type_with : Reader WrittenTree → ℕ → Reader WrittenTree
-type_with inner room ts = if leads m.Ptr ts then ptr_with inner room ts
-    else if leads m.Open ts then paren_with inner room ts
+type_with inner room ts = if leads symbols.Ptr ts then ptr_with inner room ts
+    else if leads symbols.OpenParen ts then paren_with inner room ts
     else plain_type_at ts
 
 -- a type; one more than the room is given, so that types in brackets have it
@@ -69,44 +69,44 @@ type_at (suc room) ts = type_with (type_at room) room ts
 -- "." ( "1" | "2" )
 unfoldable pub step_at : Reader ℕ
 step_at ts = do
-  dot ← take_mark m.Dot ts
+  dot ← take_mark symbols.Dot ts
   take_half dot.1
 
 -- name { "." ( "1" | "2" ) }
 unfoldable pub path_at : Reader PathTree
 path_at ts = do
   root ← take_name ts
-  steps ← all_at (leads m.Dot) step_at root.1
+  steps ← all_at (leads symbols.Dot) step_at root.1
   Ok (record { root = root.0; steps = steps.0 }, steps.1)
 
 -- "(" ")"
 unfoldable pub unit_at : ℕ → Reader AtomTree
 unit_at room ts = do
-  begin ← take_open m.Open room ts
-  close ← take_mark m.Close begin.1
+  begin ← take_open symbols.OpenParen room ts
+  close ← take_mark symbols.CloseParen begin.1
   Ok (UnitAtom begin.0, close.1)
 
 -- "null" "<" type ">"
 unfoldable pub null_at : ℕ → Reader AtomTree
 null_at room ts = do
-  at ← take_mark m.Null ts
+  at ← take_mark symbols.Null ts
   to ← angle_with (type_at room) room at.1
   Ok (NullAtom at.0 to.0, to.1)
 
 -- "default" "<" type ">"
 unfoldable pub zero_at : ℕ → Reader AtomTree
 zero_at room ts = do
-  at ← take_mark m.Default ts
+  at ← take_mark symbols.Default ts
   of ← angle_with (type_at room) room at.1
   Ok (ZeroAtom at.0 of.0, of.1)
 
 -- path | number | "true" | "false"
 unfoldable pub plain_atom_at : Reader AtomTree
-plain_atom_at ts = if leads m.True ts then (do
-  at ← take_mark m.True ts
+plain_atom_at ts = if leads symbols.True ts then (do
+  at ← take_mark symbols.True ts
   Ok (TrueAtom at.0, at.1))
-    else if leads m.False ts then (do
-      at ← take_mark m.False ts
+    else if leads symbols.False ts then (do
+      at ← take_mark symbols.False ts
       Ok (FalseAtom at.0, at.1))
     else if leads_number ts then (do
       at ← place_at ts
@@ -117,9 +117,9 @@ plain_atom_at ts = if leads m.True ts then (do
       Ok (PlaceAtom path.0.root.at path.0, path.1))
 
 unfoldable pub atom_with : ℕ → Reader AtomTree
-atom_with room ts = if leads m.Open ts then unit_at room ts
-    else if leads m.Null ts then null_at room ts
-    else if leads m.Default ts then zero_at room ts
+atom_with room ts = if leads symbols.OpenParen ts then unit_at room ts
+    else if leads symbols.Null ts then null_at room ts
+    else if leads symbols.Default ts then zero_at room ts
     else plain_atom_at ts
 
 -- an atom; one more than the room is given
@@ -128,16 +128,16 @@ atom_at zero ts = Err (Nesting 0)
 atom_at (suc room) ts = atom_with room ts
 
 -- the operator that the first token is
-abbrev pub op_of : List Tok → Option OpKind
+abbrev pub op_of : List Lexed → Option OpKind
 op_of ts =
-    if leads m.Plus ts then Some kind.Add
-    else if leads m.Minus ts then Some kind.Sub
-    else if leads m.Star ts then Some kind.Mul
-    else if leads m.Less ts then Some kind.Lt
-    else if leads m.Same ts then Some kind.Eq
-    else if leads m.Other ts then Some kind.Ne
-    else if leads m.Both ts then Some kind.And
-    else if leads m.Either ts then Some kind.Or
+    if leads symbols.Plus ts then Some kind.Add
+    else if leads symbols.Minus ts then Some kind.Sub
+    else if leads symbols.Star ts then Some kind.Mul
+    else if leads symbols.Less ts then Some kind.Lt
+    else if leads symbols.Equal ts then Some kind.Eq
+    else if leads symbols.NotEqual ts then Some kind.Ne
+    else if leads symbols.And ts then Some kind.And
+    else if leads symbols.Or ts then Some kind.Or
     else None
 
 -- [ op atom ], behind an atom whose first token has this place
@@ -153,7 +153,7 @@ op_at at left room ts = operand_at (op_of ts) at left room ts
 -- "not" atom
 unfoldable pub not_at : ℕ → Reader ExprTree
 not_at room ts = do
-  at ← take_mark m.Not ts
+  at ← take_mark symbols.Not ts
   atom ← atom_at (suc room) at.1
   Ok (NotExpr at.0 atom.0, atom.1)
 
@@ -161,17 +161,17 @@ not_at room ts = do
 unfoldable pub two_at : Pos → ℕ → Reader ExprTree
 two_at at room ts = do
   first ← atom_at room ts
-  comma ← take_mark m.Comma first.1
+  comma ← take_mark symbols.Comma first.1
   second ← atom_at room comma.1
-  close ← take_mark m.Close second.1
+  close ← take_mark symbols.CloseParen second.1
   Ok (TwoExpr at first.0 second.0, close.1)
 
 -- "(" ")" [ op atom ] | "(" atom "," atom ")"
 unfoldable pub paren_expr_at : ℕ → Reader ExprTree
 paren_expr_at room ts = do
-  begin ← take_open m.Open room ts
-  if leads m.Close begin.1 then (do
-    close ← take_mark m.Close begin.1
+  begin ← take_open symbols.OpenParen room ts
+  if leads symbols.CloseParen begin.1 then (do
+    close ← take_mark symbols.CloseParen begin.1
     op_at begin.0 (UnitAtom begin.0) room close.1) else two_at begin.0 room begin.1
 
 -- atom [ op atom ]
@@ -182,16 +182,16 @@ op_expr_at room ts = do
   op_at at left.0 room left.1
 
 unfoldable pub expr_at : ℕ → Reader ExprTree
-expr_at room ts = if leads m.Not ts then not_at room ts
-    else if leads m.Open ts then paren_expr_at room ts
+expr_at room ts = if leads symbols.Not ts then not_at room ts
+    else if leads symbols.OpenParen ts then paren_expr_at room ts
     else op_expr_at room ts
 
 -- name [ "-" number ]
 unfoldable pub named_bound_at : Reader BoundTree
 named_bound_at ts = do
   name ← take_name ts
-  if leads m.Minus name.1 then (do
-    minus ← take_mark m.Minus name.1
+  if leads symbols.Minus name.1 then (do
+    minus ← take_mark symbols.Minus name.1
     number ← take_small minus.1
     Ok (LessBound name.0 number.0, number.1)) else Ok (SameBound name.0, name.1)
 
@@ -203,31 +203,31 @@ bound_at ts = if leads_number ts then (do
 
 -- [ "[" bound "]" ]
 unfoldable pub call_bound_at : Reader (Option BoundTree)
-call_bound_at ts = if leads m.OpenBracket ts then (do
-  begin ← take_mark m.OpenBracket ts
+call_bound_at ts = if leads symbols.OpenBracket ts then (do
+  begin ← take_mark symbols.OpenBracket ts
   bound ← bound_at begin.1
-  close ← take_mark m.CloseBracket bound.1
+  close ← take_mark symbols.CloseBracket bound.1
   Ok (Some bound.0, close.1)) else Ok (None, ts)
 
 -- "," name
 unfoldable pub comma_name_at : Reader NameTree
 comma_name_at ts = do
-  comma ← take_mark m.Comma ts
+  comma ← take_mark symbols.Comma ts
   take_name comma.1
 
 -- [ name { "," name } ]
 unfoldable pub names_at : Reader (List NameTree)
 names_at ts = if leads_name ts then (do
   first ← take_name ts
-  more ← all_at (leads m.Comma) comma_name_at first.1
+  more ← all_at (leads symbols.Comma) comma_name_at first.1
   Ok (first.0 ∷ more.0, more.1)) else Ok ([], ts)
 
 -- "(" [ name { "," name } ] ")"
 unfoldable pub args_at : ℕ → Reader (List NameTree)
 args_at room ts = do
-  begin ← take_open m.Open room ts
+  begin ← take_open symbols.OpenParen room ts
   names ← names_at begin.1
-  close ← take_mark m.Close names.1
+  close ← take_mark symbols.CloseParen names.1
   Ok (names.0, close.1)
 
 -- name [ "[" bound "]" ] "(" [ name { "," name } ] ")"
@@ -239,44 +239,44 @@ call_at room ts = do
   Ok (CallRhs callee.0 bound.0 args.0, args.1)
 
 -- whether the tokens begin with a call: a name, and then "[" or "("
-abbrev pub leads_call : List Tok → Bool
-leads_call ts = leads_name ts && (leads m.OpenBracket (behind ts) || leads m.Open (behind ts))
+abbrev pub leads_call : List Lexed → Bool
+leads_call ts = leads_name ts && (leads symbols.OpenBracket (behind ts) || leads symbols.OpenParen (behind ts))
 
 -- "alloc" "<" type ">"
 unfoldable pub alloc_at : ℕ → Reader RhsTree
 alloc_at room ts = do
-  at ← take_mark m.Alloc ts
+  at ← take_mark symbols.Alloc ts
   of ← angle_with (type_at room) room at.1
   Ok (AllocRhs of.0, of.1)
 
 unfoldable pub rhs_at : ℕ → Reader RhsTree
-rhs_at room ts = if leads m.Alloc ts then alloc_at room ts
+rhs_at room ts = if leads symbols.Alloc ts then alloc_at room ts
     else if leads_call ts then call_at room ts
     else (do
       expr ← expr_at room ts
       Ok (ExprRhs expr.0, expr.1))
 
-pub type_at-ptr : (p q r s : Pos) → type_at 2 (sign_at m.Ptr p ∷ sign_at m.Less q ∷ sign_at m.Uint r ∷ sign_at m.More s ∷ []) ≡ Ok (PtrType p (UintType r), [])
+pub type_at-ptr : (p q r s : Pos) → type_at 2 (sign_at symbols.Ptr p ∷ sign_at symbols.Less q ∷ sign_at symbols.Uint r ∷ sign_at symbols.Greater s ∷ []) ≡ Ok (PtrType p (UintType r), [])
 unfolding type_at type_with ptr_with angle_with plain_type_at
 type_at-ptr p q r s = refl
 
-pub type_at-full : (p q r : Pos) → type_at 1 (sign_at m.Ptr p ∷ sign_at m.Less q ∷ sign_at m.Uint r ∷ []) ≡ Err (Nesting 2)
+pub type_at-full : (p q r : Pos) → type_at 1 (sign_at symbols.Ptr p ∷ sign_at symbols.Less q ∷ sign_at symbols.Uint r ∷ []) ≡ Err (Nesting 2)
 unfolding type_at type_with ptr_with angle_with plain_type_at
 type_at-full p q r = refl
 
-pub type_at-unit : (p q : Pos) → type_at 2 (sign_at m.Open p ∷ sign_at m.Close q ∷ []) ≡ Ok (UnitType p, [])
+pub type_at-unit : (p q : Pos) → type_at 2 (sign_at symbols.OpenParen p ∷ sign_at symbols.CloseParen q ∷ []) ≡ Ok (UnitType p, [])
 unfolding type_at type_with paren_with
 type_at-unit p q = refl
 
-pub expr_at-true : (p q r : Pos) → expr_at 0 (sign_at m.True p ∷ sign_at m.Both q ∷ sign_at m.False r ∷ [])
+pub expr_at-true : (p q r : Pos) → expr_at 0 (sign_at symbols.True p ∷ sign_at symbols.And q ∷ sign_at symbols.False r ∷ [])
     ≡ Ok (OpExpr p kind.And (TrueAtom p) (FalseAtom r), [])
 unfolding expr_at op_expr_at op_at atom_at atom_with plain_atom_at
 expr_at-true p q r = refl
 
-pub expr_at-missing : (p q : Pos) → expr_at 0 (sign_at m.True p ∷ sign_at m.Both q ∷ []) ≡ Err (Syntax 0)
+pub expr_at-missing : (p q : Pos) → expr_at 0 (sign_at symbols.True p ∷ sign_at symbols.And q ∷ []) ≡ Err (Syntax 0)
 unfolding expr_at op_expr_at op_at atom_at atom_with plain_atom_at path_at
 expr_at-missing p q = refl
 
-pub rhs_at-call : (p q r : Pos) → rhs_at 1 (name_at (codes "f") p ∷ sign_at m.Open q ∷ sign_at m.Close r ∷ []) ≡ Ok (CallRhs (named (codes "f") p) None [], [])
+pub rhs_at-call : (p q r : Pos) → rhs_at 1 (name_at (codes "f") p ∷ sign_at symbols.OpenParen q ∷ sign_at symbols.CloseParen r ∷ []) ≡ Ok (CallRhs (named (codes "f") p) None [], [])
 unfolding rhs_at call_at call_bound_at args_at names_at
 rhs_at-call p q r = refl

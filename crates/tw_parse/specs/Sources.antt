@@ -2,38 +2,38 @@
 use Rattle.std.specs.Prelude.{◌≡◌, ℕ, List}
 use Rattle.std.specs.Str.{chars, IsUtf8}
 use Rattle.tw_text.specs.declared.refusal.Refusal.{Refusal}
+use Rattle.tw_text.specs.Places.{first_place}
 use Rattle.tw_lex.specs.Scans.{IsNoToken}
 use Rattle.tw_syntax.specs.Programs.{ProgramTree}
 use Rattle.tw_parse.specs.declared.stop.Halt.TheVariants.{Syntax, Nesting}
-use Rattle.tw_parse.specs.Words.{Tok}
+use Rattle.tw_lex.specs.Tokens.{Lexed, HasTokens}
 use Rattle.tw_parse.specs.Trees.{HasTree}
 use Rattle.tw_parse.specs.Whole.{IsShallow, IsSyntaxAt, IsTooDeepAt}
-use Rattle.tw_parse.specs.Lexed.{HasToks}
 use Rattle.tw_parse.specs.Parsed.{IsNoText, refusal_of, end_of}
 
 -- the source is a text whose tokens have this tree, with at most 64 brackets open at each place
 pub record IsSource (bytes : List ℕ) (tree : ProgramTree) : Type 0 where
   pub text : IsUtf8 bytes
-  pub toks : List Tok
-  pub has : HasToks (chars bytes) toks
+  pub toks : List Lexed
+  pub has : HasTokens (chars bytes) first_place toks
   pub has_tree : HasTree toks tree
   pub shallow : IsShallow toks
 
 -- the source is refused where its tokens stop being the beginning of a program
 pub record IsNoProgram (bytes : List ℕ) (refusal : Refusal) : Type 0 where
   pub text : IsUtf8 bytes
-  pub toks : List Tok
+  pub toks : List Lexed
   pub left : ℕ
-  pub has : HasToks (chars bytes) toks
+  pub has : HasTokens (chars bytes) first_place toks
   pub syntax : IsSyntaxAt toks left
   pub is : refusal ≡ refusal_of (Syntax left) toks (end_of bytes)
 
 -- the source is refused where the 65th bracket is opened
 pub record IsTooDeep (bytes : List ℕ) (refusal : Refusal) : Type 0 where
   pub text : IsUtf8 bytes
-  pub toks : List Tok
+  pub toks : List Lexed
   pub left : ℕ
-  pub has : HasToks (chars bytes) toks
+  pub has : HasTokens (chars bytes) first_place toks
   pub nesting : IsTooDeepAt toks left
   pub is : refusal ≡ refusal_of (Nesting left) toks (end_of bytes)
 

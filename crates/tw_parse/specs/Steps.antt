@@ -1,19 +1,25 @@
 -- Reading from left to right: a reader takes what it reads from the front of the tokens, or says where they are wrong.
-use Rattle.std.specs.Prelude.{◌≡◌, ℕ, zero, suc, ◌==◌, Bool, true, false, ◌||◌, if◌then◌else◌, nat_lt, List, [], ◌∷◌, length, Result, Ok, Err, codes, refl}
+use Rattle.std.specs.Prelude.{◌≡◌, ℕ, zero, suc, ◌==◌, Bool, true, false, ◌||◌, if◌then◌else◌, nat_lt, List, [], ◌∷◌, length, map, Result, Ok, Err, codes, refl}
 use Rattle.tw_text.specs.declared.place.Pos.{Pos}
-use Rattle.tw_parse.specs.declared.word.Mark.{Mark}
-use Rattle.tw_parse.specs.declared.word.Mark.TheVariants as m
+use Rattle.tw_lex.specs.declared.symbol.Symbol.{Symbol}
+use Rattle.tw_lex.specs.declared.symbol.Symbol.TheVariants as symbols
+use Rattle.tw_lex.specs.declared.token.Token.{Token}
+use Rattle.tw_lex.specs.Scans.{seen}
 use Rattle.tw_parse.specs.declared.stop.Halt.{Halt}
 use Rattle.tw_parse.specs.declared.stop.Halt.TheVariants.{Syntax, Nesting}
 use Rattle.tw_parse.specs.declared.stop.Stop.{Stop}
 use Rattle.tw_parse.specs.declared.stop.Stop.TheVariants as stop
 use Rattle.tw_syntax.specs.Names.{NameTree}
-use Rattle.tw_parse.specs.Words.{W, Name, Number, Sign, Tok, name_at, number_at, sign_at}
+use Rattle.tw_lex.specs.Tokens.{Lexeme, Name, Number, Sign, Lexed, name_at, number_at, sign_at}
 use Rattle.tw_parse.specs.Trees.{named}
+
+-- the tokens of the code as the grammar sees them
+abbrev pub toks : List Token → List Lexed
+toks tokens = map seen tokens
 
 -- what is read, and the tokens behind it
 abbrev pub Reader : Type 0 → Type 0
-Reader X = List Tok → Result (X × List Tok) Halt
+Reader X = List Lexed → Result (X × List Lexed) Halt
 
 infixl 10 ◌>>=◌
 abbrev pub ◌>>=◌ : {A B : Type 0} → Result A Halt → (A → Result B Halt) → Result B Halt
@@ -30,61 +36,61 @@ Gives view (Ok x) read = read ≡ Ok (view x)
 Gives view (Err e) read = Fails e read
 
 -- each mark has a number of its own
-abbrev pub mark_number : Mark → ℕ
-mark_number m.Exchange = 0
-mark_number m.Gets = 1
-mark_number m.Arrow = 2
-mark_number m.Same = 3
-mark_number m.Other = 4
-mark_number m.Both = 5
-mark_number m.Either = 6
-mark_number m.Less = 7
-mark_number m.More = 8
-mark_number m.Open = 9
-mark_number m.Close = 10
-mark_number m.OpenBrace = 11
-mark_number m.CloseBrace = 12
-mark_number m.OpenBracket = 13
-mark_number m.CloseBracket = 14
-mark_number m.Comma = 15
-mark_number m.Semicolon = 16
-mark_number m.Colon = 17
-mark_number m.Dot = 18
-mark_number m.Is = 19
-mark_number m.Plus = 20
-mark_number m.Minus = 21
-mark_number m.Star = 22
-mark_number m.Type = 23
-mark_number m.Fun = 24
-mark_number m.Return = 25
-mark_number m.Let = 26
-mark_number m.If = 27
-mark_number m.Else = 28
-mark_number m.With = 29
-mark_number m.Do = 30
-mark_number m.Skip = 31
-mark_number m.Uint = 32
-mark_number m.Bool = 33
-mark_number m.Ptr = 34
-mark_number m.True = 35
-mark_number m.False = 36
-mark_number m.Null = 37
-mark_number m.Default = 38
-mark_number m.Alloc = 39
-mark_number m.Not = 40
+abbrev pub mark_number : Symbol → ℕ
+mark_number symbols.Swap = 0
+mark_number symbols.Assign = 1
+mark_number symbols.Less = 2
+mark_number symbols.Arrow = 3
+mark_number symbols.Minus = 4
+mark_number symbols.Equal = 5
+mark_number symbols.Define = 6
+mark_number symbols.NotEqual = 7
+mark_number symbols.And = 8
+mark_number symbols.Or = 9
+mark_number symbols.Greater = 10
+mark_number symbols.OpenParen = 11
+mark_number symbols.CloseParen = 12
+mark_number symbols.OpenBrace = 13
+mark_number symbols.CloseBrace = 14
+mark_number symbols.OpenBracket = 15
+mark_number symbols.CloseBracket = 16
+mark_number symbols.Comma = 17
+mark_number symbols.Semicolon = 18
+mark_number symbols.Colon = 19
+mark_number symbols.Dot = 20
+mark_number symbols.Plus = 21
+mark_number symbols.Star = 22
+mark_number symbols.Type = 23
+mark_number symbols.True = 24
+mark_number symbols.False = 25
+mark_number symbols.Fun = 26
+mark_number symbols.Return = 27
+mark_number symbols.Let = 28
+mark_number symbols.If = 29
+mark_number symbols.Else = 30
+mark_number symbols.With = 31
+mark_number symbols.Default = 32
+mark_number symbols.Do = 33
+mark_number symbols.Skip = 34
+mark_number symbols.Uint = 35
+mark_number symbols.Bool = 36
+mark_number symbols.Ptr = 37
+mark_number symbols.Null = 38
+mark_number symbols.Not = 39
+mark_number symbols.Alloc = 40
 
 -- whether a word is this mark
-abbrev pub is_mark : Mark → W → Bool
+abbrev pub is_mark : Symbol → Lexeme → Bool
 is_mark mark (Sign given) = mark_number given == mark_number mark
 is_mark mark (Name text) = false
 is_mark mark (Number value) = false
 
-abbrev pub is_name : W → Bool
+abbrev pub is_name : Lexeme → Bool
 is_name (Name text) = true
 is_name (Number value) = false
 is_name (Sign mark) = false
 
-abbrev pub is_number : W → Bool
+abbrev pub is_number : Lexeme → Bool
 is_number (Name text) = false
 is_number (Number value) = true
 is_number (Sign mark) = false
@@ -98,58 +104,58 @@ abbrev pub is_small : ℕ → Bool
 is_small value = nat_lt value 256
 
 -- whether the first token is this mark
-abbrev pub leads : Mark → List Tok → Bool
+abbrev pub leads : Symbol → List Lexed → Bool
 leads mark [] = false
-leads mark (t ∷ ts) = is_mark mark t.word
+leads mark (t ∷ ts) = is_mark mark t.lexeme
 
-abbrev pub leads_name : List Tok → Bool
+abbrev pub leads_name : List Lexed → Bool
 leads_name [] = false
-leads_name (t ∷ ts) = is_name t.word
+leads_name (t ∷ ts) = is_name t.lexeme
 
-abbrev pub leads_number : List Tok → Bool
+abbrev pub leads_number : List Lexed → Bool
 leads_number [] = false
-leads_number (t ∷ ts) = is_number t.word
+leads_number (t ∷ ts) = is_number t.lexeme
 
 -- the tokens behind the first one
-abbrev pub behind : List Tok → List Tok
+abbrev pub behind : List Lexed → List Lexed
 behind [] = []
 behind (t ∷ ts) = ts
 
 -- the place of the first token
-abbrev pub place_at : List Tok → Result Pos Halt
+abbrev pub place_at : List Lexed → Result Pos Halt
 place_at [] = Err (Syntax 0)
 place_at (t ∷ ts) = Ok t.at
 
 -- this mark, and its place
-abbrev pub take_mark : Mark → Reader Pos
+abbrev pub take_mark : Symbol → Reader Pos
 take_mark mark [] = Err (Syntax 0)
-take_mark mark (t ∷ ts) = if is_mark mark t.word then Ok (t.at, ts) else Err (Syntax (suc (length ts)))
+take_mark mark (t ∷ ts) = if is_mark mark t.lexeme then Ok (t.at, ts) else Err (Syntax (suc (length ts)))
 
 -- this mark, which opens a bracket, where there is room for one
-abbrev pub take_open : Mark → ℕ → Reader Pos
+abbrev pub take_open : Symbol → ℕ → Reader Pos
 take_open mark room ts = do
   at ← take_mark mark ts
   if room == 0 then Err (Nesting (length ts)) else Ok at
 
 -- a name, from a word at a place; the number says how many tokens are left
-abbrev pub name_from : W → Pos → ℕ → List Tok → Result (NameTree × List Tok) Halt
+abbrev pub name_from : Lexeme → Pos → ℕ → List Lexed → Result (NameTree × List Lexed) Halt
 name_from (Name text) at left ts = Ok (named text at, ts)
 name_from (Number value) at left ts = Err (Syntax left)
 name_from (Sign mark) at left ts = Err (Syntax left)
 
 abbrev pub take_name : Reader NameTree
 take_name [] = Err (Syntax 0)
-take_name (t ∷ ts) = name_from t.word t.at (suc (length ts)) ts
+take_name (t ∷ ts) = name_from t.lexeme t.at (suc (length ts)) ts
 
 -- a number, likewise
-abbrev pub number_from : W → ℕ → List Tok → Result (ℕ × List Tok) Halt
+abbrev pub number_from : Lexeme → ℕ → List Lexed → Result (ℕ × List Lexed) Halt
 number_from (Number value) left ts = Ok (value, ts)
 number_from (Name text) left ts = Err (Syntax left)
 number_from (Sign mark) left ts = Err (Syntax left)
 
 abbrev pub take_number : Reader ℕ
 take_number [] = Err (Syntax 0)
-take_number (t ∷ ts) = number_from t.word (suc (length ts)) ts
+take_number (t ∷ ts) = number_from t.lexeme (suc (length ts)) ts
 
 -- a number of at most 255
 unfoldable pub take_small : Reader ℕ
@@ -164,7 +170,7 @@ take_half ts = do
   if is_step number.0 then Ok number else Err (Syntax (length ts))
 
 -- items as long as the tokens ask for one, so many at the most
-unfoldable pub many_at : {X : Type 0} → (List Tok → Bool) → Reader X → ℕ → Reader (List X)
+unfoldable pub many_at : {X : Type 0} → (List Lexed → Bool) → Reader X → ℕ → Reader (List X)
 many_at goes item zero ts = Ok ([], ts)
 many_at goes item (suc n) ts = if goes ts then (do
   first ← item ts
@@ -172,26 +178,26 @@ many_at goes item (suc n) ts = if goes ts then (do
   Ok (first.0 ∷ rest.0, rest.1)) else Ok ([], ts)
 
 -- all items that the tokens ask for: each takes a token at least
-abbrev pub all_at : {X : Type 0} → (List Tok → Bool) → Reader X → Reader (List X)
+abbrev pub all_at : {X : Type 0} → (List Lexed → Bool) → Reader X → Reader (List X)
 all_at goes item ts = many_at goes item (length ts) ts
 
 -- an item before those that are read
-abbrev pub put_first : {X : Type 0} → X → Result (List X × List Tok) Halt → Result (List X × List Tok) Halt
+abbrev pub put_first : {X : Type 0} → X → Result (List X × List Lexed) Halt → Result (List X × List Lexed) Halt
 put_first first read = read >>= λ rest. Ok (first ∷ rest.0, rest.1)
 
-pub leads-mark : (at : Pos) → leads m.Dot (sign_at m.Dot at ∷ []) ≡ true
+pub leads-mark : (at : Pos) → leads symbols.Dot (sign_at symbols.Dot at ∷ []) ≡ true
 leads-mark at = refl
 
-pub leads-name : (at : Pos) → leads m.Dot (name_at (codes "x") at ∷ []) ≡ false
+pub leads-name : (at : Pos) → leads symbols.Dot (name_at (codes "x") at ∷ []) ≡ false
 leads-name at = refl
 
-pub take_mark-other : (at : Pos) → take_mark m.Dot (sign_at m.Comma at ∷ []) ≡ Err (Syntax 1)
+pub take_mark-other : (at : Pos) → take_mark symbols.Dot (sign_at symbols.Comma at ∷ []) ≡ Err (Syntax 1)
 take_mark-other at = refl
 
-pub take_mark-end : take_mark m.Dot [] ≡ Err (Syntax 0)
+pub take_mark-end : take_mark symbols.Dot [] ≡ Err (Syntax 0)
 take_mark-end = refl
 
-pub take_open-full : (at : Pos) → take_open m.Open 0 (sign_at m.Open at ∷ []) ≡ Err (Nesting 1)
+pub take_open-full : (at : Pos) → take_open symbols.OpenParen 0 (sign_at symbols.OpenParen at ∷ []) ≡ Err (Nesting 1)
 take_open-full at = refl
 
 pub take_small-greatest : (at : Pos) → take_small (number_at 255 at ∷ []) ≡ Ok (255, [])

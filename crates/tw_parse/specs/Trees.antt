@@ -13,7 +13,7 @@ use Rattle.tw_parse.specs.Grammar as form
 use Rattle.tw_parse.specs.Grammar.{TypeForm, StepsForm, PathForm, AtomForm, OpForm, ExprForm, BoundForm, CallBoundForm, MoreNamesForm, NamesForm, RhsForm}
 use Rattle.tw_parse.specs.Statements as form_of
 use Rattle.tw_parse.specs.Statements.{StmtForm, BlockForm, StmtsForm, ParamForm, MoreParamsForm, ParamsForm, FunBoundForm, FunForm, DeclForm, ProgramForm}
-use Rattle.tw_parse.specs.Words.{Tok}
+use Rattle.tw_lex.specs.Tokens.{Lexed}
 use Rattle.tw_parse.specs.Whole.{IsProgram}
 
 -- a name at a place
@@ -151,5 +151,5 @@ decls_tree (form_of.Last decl) = decl_tree decl ∷ []
 decls_tree (form_of.Decls decl rest) = decl_tree decl ∷ decls_tree rest
 
 -- the tokens are a program with this tree
-abbrev pub HasTree : List Tok → ProgramTree → Type 0
+abbrev pub HasTree : List Lexed → ProgramTree → Type 0
 HasTree toks tree = (program : IsProgram toks) × (tree ≡ record { decls = decls_tree program.0 })

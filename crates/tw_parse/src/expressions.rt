@@ -2,44 +2,43 @@
 
 ghost use Rattle.std.specs.Prelude.{◌≡◌, suc, drop};
 ghost use Rattle.tw_syntax.specs.Terms.{atom_tree, expr_tree};
-ghost use Rattle.tw_parse.specs.Items.{toks};
+ghost use Rattle.tw_parse.specs.Steps.{toks};
 ghost use Rattle.tw_parse.specs.Steps.{Gives};
 ghost use Rattle.tw_parse.specs.Reading.{op_of, op_at, not_at, two_at, paren_expr_at, op_expr_at, expr_at};
 
 use crate::atoms::atom;
-use crate::item::Item;
 use crate::stop::Stop;
 use crate::take::{leads, pass, place, take_mark, take_open};
-use crate::word::Mark;
+use tw_lex::{Symbol, Token};
 use tw_syntax::{Atom, AtomKind, Expr, ExprKind, OpKind};
 use tw_text::{Arena, Pos};
 
 /// The operator that stands here.
-fn operator(items: &[Item<'_>], at: usize) -> Option<OpKind>
-    ensures { result ≡ op_of (drop at (toks items.now)) }
+fn operator(tokens: &[Token<'_>], at: usize) -> Option<OpKind>
+    ensures { result ≡ op_of (drop at (toks tokens.now)) }
 {
-    if leads(Mark::Plus, items, at) {
+    if leads(Symbol::Plus, tokens, at) {
         return Some(OpKind::Add);
     }
-    if leads(Mark::Minus, items, at) {
+    if leads(Symbol::Minus, tokens, at) {
         return Some(OpKind::Sub);
     }
-    if leads(Mark::Star, items, at) {
+    if leads(Symbol::Star, tokens, at) {
         return Some(OpKind::Mul);
     }
-    if leads(Mark::Less, items, at) {
+    if leads(Symbol::Less, tokens, at) {
         return Some(OpKind::Lt);
     }
-    if leads(Mark::Same, items, at) {
+    if leads(Symbol::Equal, tokens, at) {
         return Some(OpKind::Eq);
     }
-    if leads(Mark::Other, items, at) {
+    if leads(Symbol::NotEqual, tokens, at) {
         return Some(OpKind::Ne);
     }
-    if leads(Mark::Both, items, at) {
+    if leads(Symbol::And, tokens, at) {
         return Some(OpKind::And);
     }
-    if leads(Mark::Either, items, at) {
+    if leads(Symbol::Or, tokens, at) {
         return Some(OpKind::Or);
     }
     None
@@ -51,20 +50,20 @@ fn operation<'a>(
     arena: &'a Arena,
     place: Pos,
     left: Atom<'a>,
-    items: &[Item<'a>],
+    tokens: &[Token<'a>],
     at: &mut usize,
     room: u32,
 ) -> Result<Expr<'a>, Stop>
-    ensures { Gives (λ x. (expr_tree x, drop at.new (toks items.now))) result (op_at place (atom_tree left.entry) room (drop at.old (toks items.now))) }
+    ensures { Gives (λ x. (expr_tree x, drop at.new (toks tokens.now))) result (op_at place (atom_tree left.entry) room (drop at.old (toks tokens.now))) }
 {
-    match operator(items, *at) {
+    match operator(tokens, *at) {
         None => Ok(Expr {
             at: place,
             kind: ExprKind::One(left),
         }),
         Some(op) => {
-            pass(items, at);
-            let right = atom(arena, items, at, room)?;
+            pass(tokens, at);
+            let right = atom(arena, tokens, at, room)?;
             Ok(Expr {
                 at: place,
                 kind: ExprKind::Op(op, left, right),
@@ -77,14 +76,14 @@ fn operation<'a>(
 #[tactic(auto, unfolding(crate::specs::Reading::not_at))]
 fn negation<'a>(
     arena: &'a Arena,
-    items: &[Item<'a>],
+    tokens: &[Token<'a>],
     at: &mut usize,
     room: u32,
 ) -> Result<Expr<'a>, Stop>
-    ensures { Gives (λ x. (expr_tree x, drop at.new (toks items.now))) result (not_at room (drop at.old (toks items.now))) }
+    ensures { Gives (λ x. (expr_tree x, drop at.new (toks tokens.now))) result (not_at room (drop at.old (toks tokens.now))) }
 {
-    let place = take_mark(Mark::Not, items, at)?;
-    let negated = atom(arena, items, at, room)?;
+    let place = take_mark(Symbol::Not, tokens, at)?;
+    let negated = atom(arena, tokens, at, room)?;
     Ok(Expr {
         at: place,
         kind: ExprKind::Not(negated),
@@ -96,16 +95,16 @@ fn negation<'a>(
 fn two<'a>(
     arena: &'a Arena,
     place: Pos,
-    items: &[Item<'a>],
+    tokens: &[Token<'a>],
     at: &mut usize,
     room: u32,
 ) -> Result<Expr<'a>, Stop>
-    ensures { Gives (λ x. (expr_tree x, drop at.new (toks items.now))) result (two_at place (suc room) (drop at.old (toks items.now))) }
+    ensures { Gives (λ x. (expr_tree x, drop at.new (toks tokens.now))) result (two_at place (suc room) (drop at.old (toks tokens.now))) }
 {
-    let first = atom(arena, items, at, room)?;
-    take_mark(Mark::Comma, items, at)?;
-    let second = atom(arena, items, at, room)?;
-    take_mark(Mark::Close, items, at)?;
+    let first = atom(arena, tokens, at, room)?;
+    take_mark(Symbol::Comma, tokens, at)?;
+    let second = atom(arena, tokens, at, room)?;
+    take_mark(Symbol::CloseParen, tokens, at)?;
     Ok(Expr {
         at: place,
         kind: ExprKind::Two(first, second),
@@ -116,54 +115,54 @@ fn two<'a>(
 #[tactic(auto, unfolding(crate::specs::Reading::paren_expr_at))]
 fn paren<'a>(
     arena: &'a Arena,
-    items: &[Item<'a>],
+    tokens: &[Token<'a>],
     at: &mut usize,
     room: u32,
 ) -> Result<Expr<'a>, Stop>
-    ensures { Gives (λ x. (expr_tree x, drop at.new (toks items.now))) result (paren_expr_at room (drop at.old (toks items.now))) }
+    ensures { Gives (λ x. (expr_tree x, drop at.new (toks tokens.now))) result (paren_expr_at room (drop at.old (toks tokens.now))) }
 {
-    let place = take_open(Mark::Open, room, items, at)?;
-    if leads(Mark::Close, items, *at) {
-        take_mark(Mark::Close, items, at)?;
+    let place = take_open(Symbol::OpenParen, room, tokens, at)?;
+    if leads(Symbol::CloseParen, tokens, *at) {
+        take_mark(Symbol::CloseParen, tokens, at)?;
         let left = Atom {
             at: place,
             kind: AtomKind::Unit,
         };
-        return operation(arena, place, left, items, at, room);
+        return operation(arena, place, left, tokens, at, room);
     }
-    two(arena, place, items, at, room - 1)
+    two(arena, place, tokens, at, room - 1)
 }
 
 /// An atom, or two with an operator.
 #[tactic(auto, unfolding(crate::specs::Reading::op_expr_at))]
 fn atoms<'a>(
     arena: &'a Arena,
-    items: &[Item<'a>],
+    tokens: &[Token<'a>],
     at: &mut usize,
     room: u32,
 ) -> Result<Expr<'a>, Stop>
-    ensures { Gives (λ x. (expr_tree x, drop at.new (toks items.now))) result (op_expr_at room (drop at.old (toks items.now))) }
+    ensures { Gives (λ x. (expr_tree x, drop at.new (toks tokens.now))) result (op_expr_at room (drop at.old (toks tokens.now))) }
 {
-    let place = place(items, *at)?;
-    let left = atom(arena, items, at, room)?;
-    operation(arena, place, left, items, at, room)
+    let place = place(tokens, *at)?;
+    let left = atom(arena, tokens, at, room)?;
+    operation(arena, place, left, tokens, at, room)
 }
 
 /// An expression, in which so many brackets may open.
 #[tactic(auto, unfolding(crate::specs::Reading::expr_at))]
 pub fn expr<'a>(
     arena: &'a Arena,
-    items: &[Item<'a>],
+    tokens: &[Token<'a>],
     at: &mut usize,
     room: u32,
 ) -> Result<Expr<'a>, Stop>
-    ensures { Gives (λ x. (expr_tree x, drop at.new (toks items.now))) result (expr_at room (drop at.old (toks items.now))) }
+    ensures { Gives (λ x. (expr_tree x, drop at.new (toks tokens.now))) result (expr_at room (drop at.old (toks tokens.now))) }
 {
-    if leads(Mark::Not, items, *at) {
-        return negation(arena, items, at, room);
+    if leads(Symbol::Not, tokens, *at) {
+        return negation(arena, tokens, at, room);
     }
-    if leads(Mark::Open, items, *at) {
-        return paren(arena, items, at, room);
+    if leads(Symbol::OpenParen, tokens, *at) {
+        return paren(arena, tokens, at, room);
     }
-    atoms(arena, items, at, room)
+    atoms(arena, tokens, at, room)
 }

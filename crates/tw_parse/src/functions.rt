@@ -5,20 +5,19 @@ ghost use Rattle.std.specs.Option.{option_map};
 ghost use Rattle.tw_syntax.specs.Names.{name_tree};
 ghost use Rattle.tw_syntax.specs.Types.{written_tree};
 ghost use Rattle.tw_syntax.specs.Programs.{param_tree, fun_tree};
-ghost use Rattle.tw_parse.specs.declared.word.Mark.TheVariants as m;
-ghost use Rattle.tw_parse.specs.Items.{toks};
+ghost use Rattle.tw_lex.specs.declared.symbol.Symbol.TheVariants as symbols;
+ghost use Rattle.tw_parse.specs.Steps.{toks};
 ghost use Rattle.tw_parse.specs.Steps.{Gives, all_at, leads, put_first};
 ghost use Rattle.tw_parse.specs.Reading.{type_at};
 ghost use Rattle.tw_parse.specs.ReadingStatements.{param_with, comma_param_with, param_list_with, params_at, fun_bound_at, title_at, interface_at, return_at, body_at, fun_at};
 ghost use Rattle.tw_parse.specs.Parts.{title_of, interface_of, return_of, body_of};
 
-use crate::item::Item;
 use crate::statements::stmts;
 use crate::stop::Stop;
 use crate::take::{leads, leads_name, left, take_mark, take_name, take_open};
 use crate::types::written;
-use crate::word::Mark;
 use bumpalo::collections::into_bump_slice;
+use tw_lex::{Symbol, Token};
 use tw_syntax::{Fun, Name, Param, Stmt, Written};
 use tw_text::{Arena, Pos};
 
@@ -54,15 +53,15 @@ pub struct Body<'a> {
 #[tactic(auto, unfolding(crate::specs::ReadingStatements::param_with))]
 fn param<'a>(
     arena: &'a Arena,
-    items: &[Item<'a>],
+    tokens: &[Token<'a>],
     at: &mut usize,
     room: u32,
 ) -> Result<Param<'a>, Stop>
-    ensures { Gives (λ x. (param_tree x, drop at.new (toks items.now))) result (param_with (type_at (suc room)) (drop at.old (toks items.now))) }
+    ensures { Gives (λ x. (param_tree x, drop at.new (toks tokens.now))) result (param_with (type_at (suc room)) (drop at.old (toks tokens.now))) }
 {
-    let name = take_name(items, at)?;
-    take_mark(Mark::Colon, items, at)?;
-    let ty = written(arena, items, at, room)?;
+    let name = take_name(tokens, at)?;
+    take_mark(Symbol::Colon, tokens, at)?;
+    let ty = written(arena, tokens, at, room)?;
     Ok(Param { name, ty })
 }
 
@@ -70,34 +69,34 @@ fn param<'a>(
 #[tactic(auto, unfolding(crate::specs::ReadingStatements::comma_param_with))]
 fn comma_param<'a>(
     arena: &'a Arena,
-    items: &[Item<'a>],
+    tokens: &[Token<'a>],
     at: &mut usize,
     room: u32,
 ) -> Result<Param<'a>, Stop>
-    ensures { Gives (λ x. (param_tree x, drop at.new (toks items.now))) result (comma_param_with (type_at (suc room)) (drop at.old (toks items.now))) }
+    ensures { Gives (λ x. (param_tree x, drop at.new (toks tokens.now))) result (comma_param_with (type_at (suc room)) (drop at.old (toks tokens.now))) }
 {
-    take_mark(Mark::Comma, items, at)?;
-    param(arena, items, at, room)
+    take_mark(Symbol::Comma, tokens, at)?;
+    param(arena, tokens, at, room)
 }
 
 /// A parameter that was read, and all that follow it behind commas.
 fn more_params<'a>(
     arena: &'a Arena,
     first: Param<'a>,
-    items: &[Item<'a>],
+    tokens: &[Token<'a>],
     at: &mut usize,
     room: u32,
 ) -> Result<&'a [Param<'a>], Stop>
-    ensures { Gives (λ x. (map param_tree x.now, drop at.new (toks items.now))) result (put_first (param_tree first.entry) (all_at (leads m.Comma) (comma_param_with (type_at (suc room))) (drop at.old (toks items.now)))) }
+    ensures { Gives (λ x. (map param_tree x.now, drop at.new (toks tokens.now))) result (put_first (param_tree first.entry) (all_at (leads symbols.Comma) (comma_param_with (type_at (suc room))) (drop at.old (toks tokens.now)))) }
 {
     let mut params = Vec::new(arena);
     params.push(first)?;
-    let count = left(items, *at);
+    let count = left(tokens, *at);
     for _ in 0..count {
-        if !leads(Mark::Comma, items, *at) {
+        if !leads(Symbol::Comma, tokens, *at) {
             return Ok(into_bump_slice(params));
         }
-        params.push(comma_param(arena, items, at, room)?)?;
+        params.push(comma_param(arena, tokens, at, room)?)?;
     }
     Ok(into_bump_slice(params))
 }
@@ -106,57 +105,57 @@ fn more_params<'a>(
 #[tactic(auto, unfolding(crate::specs::ReadingStatements::param_list_with))]
 fn param_list<'a>(
     arena: &'a Arena,
-    items: &[Item<'a>],
+    tokens: &[Token<'a>],
     at: &mut usize,
     room: u32,
 ) -> Result<&'a [Param<'a>], Stop>
-    ensures { Gives (λ x. (map param_tree x.now, drop at.new (toks items.now))) result (param_list_with (type_at (suc room)) (drop at.old (toks items.now))) }
+    ensures { Gives (λ x. (map param_tree x.now, drop at.new (toks tokens.now))) result (param_list_with (type_at (suc room)) (drop at.old (toks tokens.now))) }
 {
-    if !leads_name(items, *at) {
+    if !leads_name(tokens, *at) {
         return Ok(&[]);
     }
-    let first = param(arena, items, at, room)?;
-    more_params(arena, first, items, at, room)
+    let first = param(arena, tokens, at, room)?;
+    more_params(arena, first, tokens, at, room)
 }
 
 /// The parameters of a function.
 #[tactic(auto, unfolding(crate::specs::ReadingStatements::params_at))]
 fn params<'a>(
     arena: &'a Arena,
-    items: &[Item<'a>],
+    tokens: &[Token<'a>],
     at: &mut usize,
     room: u32,
 ) -> Result<&'a [Param<'a>], Stop>
-    ensures { Gives (λ x. (map param_tree x.now, drop at.new (toks items.now))) result (params_at room (drop at.old (toks items.now))) }
+    ensures { Gives (λ x. (map param_tree x.now, drop at.new (toks tokens.now))) result (params_at room (drop at.old (toks tokens.now))) }
 {
-    take_open(Mark::Open, room, items, at)?;
-    let params = param_list(arena, items, at, room - 1)?;
-    take_mark(Mark::Close, items, at)?;
+    take_open(Symbol::OpenParen, room, tokens, at)?;
+    let params = param_list(arena, tokens, at, room - 1)?;
+    take_mark(Symbol::CloseParen, tokens, at)?;
     Ok(params)
 }
 
 /// The bound of a function in its brackets, where there is one.
 #[tactic(auto, unfolding(crate::specs::ReadingStatements::fun_bound_at))]
-fn fun_bound<'a>(items: &[Item<'a>], at: &mut usize) -> Result<Option<Name<'a>>, Stop>
-    ensures { Gives (λ x. (option_map name_tree x, drop at.new (toks items.now))) result (fun_bound_at (drop at.old (toks items.now))) }
+fn fun_bound<'a>(tokens: &[Token<'a>], at: &mut usize) -> Result<Option<Name<'a>>, Stop>
+    ensures { Gives (λ x. (option_map name_tree x, drop at.new (toks tokens.now))) result (fun_bound_at (drop at.old (toks tokens.now))) }
 {
-    if !leads(Mark::OpenBracket, items, *at) {
+    if !leads(Symbol::OpenBracket, tokens, *at) {
         return Ok(None);
     }
-    take_mark(Mark::OpenBracket, items, at)?;
-    let name = take_name(items, at)?;
-    take_mark(Mark::CloseBracket, items, at)?;
+    take_mark(Symbol::OpenBracket, tokens, at)?;
+    let name = take_name(tokens, at)?;
+    take_mark(Symbol::CloseBracket, tokens, at)?;
     Ok(Some(name))
 }
 
 /// `fun`, a name and perhaps a bound.
 #[tactic(auto, unfolding(crate::specs::ReadingStatements::title_at))]
-fn take_title<'a>(items: &[Item<'a>], at: &mut usize) -> Result<Title<'a>, Stop>
-    ensures { Gives (λ x. (title_of x, drop at.new (toks items.now))) result (title_at (drop at.old (toks items.now))) }
+fn take_title<'a>(tokens: &[Token<'a>], at: &mut usize) -> Result<Title<'a>, Stop>
+    ensures { Gives (λ x. (title_of x, drop at.new (toks tokens.now))) result (title_at (drop at.old (toks tokens.now))) }
 {
-    take_mark(Mark::Fun, items, at)?;
-    let name = take_name(items, at)?;
-    let bound = fun_bound(items, at)?;
+    take_mark(Symbol::Fun, tokens, at)?;
+    let name = take_name(tokens, at)?;
+    let bound = fun_bound(tokens, at)?;
     Ok(Title { name, bound })
 }
 
@@ -164,26 +163,26 @@ fn take_title<'a>(items: &[Item<'a>], at: &mut usize) -> Result<Title<'a>, Stop>
 #[tactic(auto, unfolding(crate::specs::ReadingStatements::interface_at))]
 fn take_interface<'a>(
     arena: &'a Arena,
-    items: &[Item<'a>],
+    tokens: &[Token<'a>],
     at: &mut usize,
     room: u32,
 ) -> Result<Interface<'a>, Stop>
-    ensures { Gives (λ x. (interface_of x, drop at.new (toks items.now))) result (interface_at room (drop at.old (toks items.now))) }
+    ensures { Gives (λ x. (interface_of x, drop at.new (toks tokens.now))) result (interface_at room (drop at.old (toks tokens.now))) }
 {
-    let params = params(arena, items, at, room)?;
-    take_mark(Mark::Arrow, items, at)?;
-    let result = written(arena, items, at, room)?;
+    let params = params(arena, tokens, at, room)?;
+    take_mark(Symbol::Arrow, tokens, at)?;
+    let result = written(arena, tokens, at, room)?;
     Ok(Interface { params, result })
 }
 
 /// `return`, a name and a semicolon.
 #[tactic(auto, unfolding(crate::specs::ReadingStatements::return_at))]
-fn take_last<'a>(items: &[Item<'a>], at: &mut usize) -> Result<Return<'a>, Stop>
-    ensures { Gives (λ x. (return_of x, drop at.new (toks items.now))) result (return_at (drop at.old (toks items.now))) }
+fn take_last<'a>(tokens: &[Token<'a>], at: &mut usize) -> Result<Return<'a>, Stop>
+    ensures { Gives (λ x. (return_of x, drop at.new (toks tokens.now))) result (return_at (drop at.old (toks tokens.now))) }
 {
-    let place = take_mark(Mark::Return, items, at)?;
-    let name = take_name(items, at)?;
-    take_mark(Mark::Semicolon, items, at)?;
+    let place = take_mark(Symbol::Return, tokens, at)?;
+    let name = take_name(tokens, at)?;
+    take_mark(Symbol::Semicolon, tokens, at)?;
     Ok(Return { at: place, name })
 }
 
@@ -191,16 +190,16 @@ fn take_last<'a>(items: &[Item<'a>], at: &mut usize) -> Result<Return<'a>, Stop>
 #[tactic(auto, unfolding(crate::specs::ReadingStatements::body_at))]
 fn take_body<'a>(
     arena: &'a Arena,
-    items: &[Item<'a>],
+    tokens: &[Token<'a>],
     at: &mut usize,
     room: u32,
 ) -> Result<Body<'a>, Stop>
-    ensures { Gives (λ x. (body_of x, drop at.new (toks items.now))) result (body_at room (drop at.old (toks items.now))) }
+    ensures { Gives (λ x. (body_of x, drop at.new (toks tokens.now))) result (body_at room (drop at.old (toks tokens.now))) }
 {
-    take_open(Mark::OpenBrace, room, items, at)?;
-    let stmts = stmts(arena, Mark::Return, items, at, room - 1)?;
-    let last = take_last(items, at)?;
-    take_mark(Mark::CloseBrace, items, at)?;
+    take_open(Symbol::OpenBrace, room, tokens, at)?;
+    let stmts = stmts(arena, Symbol::Return, tokens, at, room - 1)?;
+    let last = take_last(tokens, at)?;
+    take_mark(Symbol::CloseBrace, tokens, at)?;
     Ok(Body { stmts, last })
 }
 
@@ -208,15 +207,15 @@ fn take_body<'a>(
 #[tactic(auto, using(crate::proofs::code::Chains::chains), unfolding(crate::specs::ReadingStatements::fun_at))]
 pub fn fun<'a>(
     arena: &'a Arena,
-    items: &[Item<'a>],
+    tokens: &[Token<'a>],
     at: &mut usize,
     room: u32,
 ) -> Result<Fun<'a>, Stop>
-    ensures { Gives (λ x. (fun_tree x, drop at.new (toks items.now))) result (fun_at room (drop at.old (toks items.now))) }
+    ensures { Gives (λ x. (fun_tree x, drop at.new (toks tokens.now))) result (fun_at room (drop at.old (toks tokens.now))) }
 {
-    let title = take_title(items, at)?;
-    let interface = take_interface(arena, items, at, room)?;
-    let body = take_body(arena, items, at, room)?;
+    let title = take_title(tokens, at)?;
+    let interface = take_interface(arena, tokens, at, room)?;
+    let body = take_body(arena, tokens, at, room)?;
     Ok(Fun {
         name: title.name,
         bound: title.bound,

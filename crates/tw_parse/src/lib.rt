@@ -6,7 +6,6 @@ mod atoms;
 mod calls;
 mod expressions;
 mod functions;
-mod item;
 mod parsing;
 mod paths;
 mod programs;
@@ -18,6 +17,5 @@ mod take;
 #[cfg(test)]
 mod tests;
 mod types;
-mod word;
 
 pub use parsing::parse;

@@ -5,59 +5,58 @@ ghost use Rattle.std.specs.Str.{chars, IsUtf8};
 ghost use Rattle.tw_text.specs.declared.refusal.Fault.TheVariants as fault;
 ghost use Rattle.tw_syntax.specs.Programs.{ProgramTree, program_tree};
 ghost use Rattle.tw_parse.specs.declared.stop.Stop.TheVariants as stop;
-ghost use Rattle.tw_parse.specs.Items.{toks};
+ghost use Rattle.tw_parse.specs.Steps.{toks};
 ghost use Rattle.tw_parse.specs.Sources.{IsSource, IsRefused};
 ghost use Rattle.tw_parse.specs.Parsed.{place_left, refusal_of, end_of, fault_of, IsParsed, IsFault, IsNoTextFault};
 
-use crate::item::{Item, items};
 use crate::programs::program;
 use crate::stop::{Halt, Stop};
 use crate::take::first;
 use std::alloc::Global;
-use tw_lex::tokens;
+use tw_lex::{Token, tokens};
 use tw_syntax::Program;
 use tw_text::{Arena, Counted, Fault, Pos, Refusal, Rule, place_after};
 
-/// The place of the first of so many last items, or the place behind the text.
-fn place_of(items: &[Item<'_>], left: usize, text: &str) -> Pos
+/// The place of the first of so many last tokens, or the place behind the text.
+fn place_of(tokens: &[Token<'_>], left: usize, text: &str) -> Pos
     requires { length text.now < 4294967295 }
-    ensures { result ≡ place_left (toks items.now) left (end_of text.now) }
+    ensures { result ≡ place_left (toks tokens.now) left (end_of text.now) }
 {
-    match first(items, items.len().saturating_sub(left)) {
-        Some(item) => item.at,
+    match first(tokens, tokens.len().saturating_sub(left)) {
+        Some(token) => token.at,
         None => place_after(text),
     }
 }
 
-/// The refusal of a text with these items.
-fn refusal(halt: Halt, items: &[Item<'_>], text: &str) -> Refusal
+/// The refusal of a text with these tokens.
+fn refusal(halt: Halt, tokens: &[Token<'_>], text: &str) -> Refusal
     requires { length text.now < 4294967295 }
-    ensures { result ≡ refusal_of halt (toks items.now) (end_of text.now) }
+    ensures { result ≡ refusal_of halt (toks tokens.now) (end_of text.now) }
 {
     match halt {
         Halt::Syntax(left) => Refusal {
             rule: Rule::Syntax,
-            at: place_of(items, left, text),
+            at: place_of(tokens, left, text),
             found: 0,
             limit: 0,
         },
         Halt::Nesting(left) => Refusal {
             rule: Rule::Limit(Counted::Nesting),
-            at: place_of(items, left, text),
+            at: place_of(tokens, left, text),
             found: 65,
             limit: 64,
         },
     }
 }
 
-/// The fault for a stop over these items.
-fn fault(stop: Stop, items: &[Item<'_>], text: &str) -> Fault
+/// The fault for a stop over these tokens.
+fn fault(stop: Stop, tokens: &[Token<'_>], text: &str) -> Fault
     requires { length text.now < 4294967295 }
-    ensures { result ≡ fault_of stop (toks items.now) (end_of text.now) }
+    ensures { result ≡ fault_of stop (toks tokens.now) (end_of text.now) }
 {
     match stop {
         Stop::Memory => Fault::Memory,
-        Stop::Halt(halt) => Fault::Refused(refusal(halt, items, text)),
+        Stop::Halt(halt) => Fault::Refused(refusal(halt, tokens, text)),
     }
 }
 
@@ -89,12 +88,9 @@ fn parse_text<'a>(alloc: Global, arena: &'a Arena, text: &'a str) -> Result<&'a 
     ensures refused { IfErr result (λ e. IsFault text.now e) }
 {
     let tokens = tokens(alloc, text)?;
-    let Ok(items) = items(alloc, &tokens) else {
-        return Err(Fault::Memory);
-    };
-    match program(arena, &items) {
+    match program(arena, &tokens) {
         Ok(program) => Ok(program),
-        Err(stop) => Err(fault(stop, &items, text)),
+        Err(stop) => Err(fault(stop, &tokens, text)),
     }
 }
 

@@ -3,17 +3,16 @@
 ghost use Rattle.std.specs.Prelude.{◌≡◌, suc, drop, map};
 ghost use Rattle.tw_syntax.specs.Types.{written_tree};
 ghost use Rattle.tw_syntax.specs.Programs.{alias_tree, decl_tree, program_tree};
-ghost use Rattle.tw_parse.specs.Items.{toks};
+ghost use Rattle.tw_parse.specs.Steps.{toks};
 ghost use Rattle.tw_parse.specs.Steps.{Gives, all_at, put_first};
 ghost use Rattle.tw_parse.specs.ReadingStatements.{type_end_at, alias_at, decl_at, is_more, program_at, whole_at};
 
 use crate::functions::fun;
-use crate::item::Item;
 use crate::stop::Stop;
 use crate::take::{first, leads, left, take_mark, take_name};
 use crate::types::written;
-use crate::word::Mark;
 use bumpalo::collections::into_bump_slice;
+use tw_lex::{Symbol, Token};
 use tw_syntax::{Alias, Decl, Program, Written, build_program};
 use tw_text::Arena;
 
@@ -21,14 +20,14 @@ use tw_text::Arena;
 #[tactic(auto, unfolding(crate::specs::ReadingStatements::type_end_at))]
 fn type_end<'a>(
     arena: &'a Arena,
-    items: &[Item<'a>],
+    tokens: &[Token<'a>],
     at: &mut usize,
     room: u32,
 ) -> Result<&'a Written<'a>, Stop>
-    ensures { Gives (λ x. (written_tree x.now, drop at.new (toks items.now))) result (type_end_at room (drop at.old (toks items.now))) }
+    ensures { Gives (λ x. (written_tree x.now, drop at.new (toks tokens.now))) result (type_end_at room (drop at.old (toks tokens.now))) }
 {
-    let body = written(arena, items, at, room)?;
-    take_mark(Mark::Semicolon, items, at)?;
+    let body = written(arena, tokens, at, room)?;
+    take_mark(Symbol::Semicolon, tokens, at)?;
     Ok(body)
 }
 
@@ -36,16 +35,16 @@ fn type_end<'a>(
 #[tactic(auto, unfolding(crate::specs::ReadingStatements::alias_at))]
 fn alias<'a>(
     arena: &'a Arena,
-    items: &[Item<'a>],
+    tokens: &[Token<'a>],
     at: &mut usize,
     room: u32,
 ) -> Result<Alias<'a>, Stop>
-    ensures { Gives (λ x. (alias_tree x, drop at.new (toks items.now))) result (alias_at room (drop at.old (toks items.now))) }
+    ensures { Gives (λ x. (alias_tree x, drop at.new (toks tokens.now))) result (alias_at room (drop at.old (toks tokens.now))) }
 {
-    take_mark(Mark::Type, items, at)?;
-    let name = take_name(items, at)?;
-    take_mark(Mark::Is, items, at)?;
-    let body = type_end(arena, items, at, room)?;
+    take_mark(Symbol::Type, tokens, at)?;
+    let name = take_name(tokens, at)?;
+    take_mark(Symbol::Define, tokens, at)?;
+    let body = type_end(arena, tokens, at, room)?;
     Ok(Alias { name, body })
 }
 
@@ -53,63 +52,67 @@ fn alias<'a>(
 #[tactic(auto, unfolding(crate::specs::ReadingStatements::decl_at))]
 fn decl<'a>(
     arena: &'a Arena,
-    items: &[Item<'a>],
+    tokens: &[Token<'a>],
     at: &mut usize,
     room: u32,
 ) -> Result<Decl<'a>, Stop>
-    ensures { Gives (λ x. (decl_tree x, drop at.new (toks items.now))) result (decl_at room (drop at.old (toks items.now))) }
+    ensures { Gives (λ x. (decl_tree x, drop at.new (toks tokens.now))) result (decl_at room (drop at.old (toks tokens.now))) }
 {
-    if leads(Mark::Type, items, *at) {
-        let alias = alias(arena, items, at, room)?;
+    if leads(Symbol::Type, tokens, *at) {
+        let alias = alias(arena, tokens, at, room)?;
         return Ok(Decl::Alias(alias));
     }
-    let fun = fun(arena, items, at, room)?;
+    let fun = fun(arena, tokens, at, room)?;
     Ok(Decl::Fun(fun))
 }
 
-/// Whether an item is left.
-fn has_more(items: &[Item<'_>], at: usize) -> bool
-    ensures { result ≡ is_more (drop at (toks items.now)) }
+/// Whether a token is left.
+fn has_more(tokens: &[Token<'_>], at: usize) -> bool
+    ensures { result ≡ is_more (drop at (toks tokens.now)) }
 {
-    first(items, at).is_some()
+    first(tokens, at).is_some()
 }
 
 /// A declaration that was read, and all that follow it.
 fn more_decls<'a>(
     arena: &'a Arena,
     first: Decl<'a>,
-    items: &[Item<'a>],
+    tokens: &[Token<'a>],
     at: &mut usize,
     room: u32,
 ) -> Result<&'a [Decl<'a>], Stop>
-    ensures { Gives (λ x. (map decl_tree x.now, drop at.new (toks items.now))) result (put_first (decl_tree first.entry) (all_at is_more (decl_at room) (drop at.old (toks items.now)))) }
+    ensures { Gives (λ x. (map decl_tree x.now, drop at.new (toks tokens.now))) result (put_first (decl_tree first.entry) (all_at is_more (decl_at room) (drop at.old (toks tokens.now)))) }
 {
     let mut decls = Vec::new(arena);
     decls.push(first)?;
-    let count = left(items, *at);
+    let count = left(tokens, *at);
     for _ in 0..count {
-        if !has_more(items, *at) {
+        if !has_more(tokens, *at) {
             return Ok(into_bump_slice(decls));
         }
-        decls.push(decl(arena, items, at, room)?)?;
+        decls.push(decl(arena, tokens, at, room)?)?;
     }
     Ok(into_bump_slice(decls))
 }
 
 /// A program, in which so many brackets may open.
 #[tactic(auto, unfolding(crate::specs::ReadingStatements::program_at))]
-fn program_in<'a>(arena: &'a Arena, items: &[Item<'a>], room: u32) -> Result<&'a Program<'a>, Stop>
-    ensures { Gives (λ x. program_tree x.now) result (program_at room (toks items.now)) }
+fn program_in<'a>(
+    arena: &'a Arena,
+    tokens: &[Token<'a>],
+    room: u32,
+) -> Result<&'a Program<'a>, Stop>
+    ensures { Gives (λ x. program_tree x.now) result (program_at room (toks tokens.now)) }
 {
     let mut at = 0;
-    let first = decl(arena, items, &mut at, room)?;
-    let decls = more_decls(arena, first, items, &mut at, room)?;
+    let first = decl(arena, tokens, &mut at, room)?;
+    let decls = more_decls(arena, first, tokens, &mut at, room)?;
     Ok(build_program(arena, decls)?)
 }
 
 /// A program, in which 64 brackets may be open at one place.
-pub fn program<'a>(arena: &'a Arena, items: &[Item<'a>]) -> Result<&'a Program<'a>, Stop>
-    ensures { Gives (λ x. program_tree x.now) result (whole_at (toks items.now)) }
+pub fn program<'a>(arena: &'a Arena, tokens: &[Token<'a>]) -> Result<&'a Program<'a>, Stop>
+    ensures { Gives (λ x. program_tree x.now) result (whole_at (toks tokens.now)) }
 {
-    program_in(arena, items, 64)
+    program_in(arena, tokens, 64)
 }

@@ -2,17 +2,16 @@
 
 ghost use Rattle.std.specs.Prelude.{◌≡◌, suc, drop, map};
 ghost use Rattle.tw_syntax.specs.Statements.{stmt_tree, else_tree};
-ghost use Rattle.tw_parse.specs.Items.{toks};
+ghost use Rattle.tw_parse.specs.Steps.{toks};
 ghost use Rattle.tw_parse.specs.Steps.{Gives, all_at};
 ghost use Rattle.tw_parse.specs.ReadingStatements.{goes_before, block_with, block_stmt_with, else_with, if_with, with_with, stmt_at};
 
-use crate::item::Item;
 use crate::paths::path;
 use crate::simple::plain_stmt;
 use crate::stop::Stop;
 use crate::take::{leads, left, place, take_mark, take_open};
-use crate::word::Mark;
 use bumpalo::collections::into_bump_slice;
+use tw_lex::{Symbol, Token};
 use tw_syntax::{No, Stmt, block as block_of, choice, otherwise, with_block};
 use tw_text::Arena;
 
@@ -20,20 +19,20 @@ use tw_text::Arena;
 #[cycle(statements)]
 pub fn stmts<'a>(
     arena: &'a Arena,
-    end: Mark,
-    items: &[Item<'a>],
+    end: Symbol,
+    tokens: &[Token<'a>],
     at: &mut usize,
     room: u32,
 ) -> Result<&'a [Stmt<'a>], Stop>
-    ensures { Gives (λ x. (map stmt_tree x.now, drop at.new (toks items.now))) result (all_at (goes_before end) (stmt_at (suc room)) (drop at.old (toks items.now))) }
+    ensures { Gives (λ x. (map stmt_tree x.now, drop at.new (toks tokens.now))) result (all_at (goes_before end) (stmt_at (suc room)) (drop at.old (toks tokens.now))) }
 {
-    let count = left(items, *at);
+    let count = left(tokens, *at);
     let mut stmts = Vec::new(arena);
     for _ in 0..count {
-        if leads(end, items, *at) {
+        if leads(end, tokens, *at) {
             return Ok(into_bump_slice(stmts));
         }
-        stmts.push(stmt(arena, items, at, room)?)?;
+        stmts.push(stmt(arena, tokens, at, room)?)?;
     }
     Ok(into_bump_slice(stmts))
 }
@@ -43,15 +42,15 @@ pub fn stmts<'a>(
 #[tactic(auto, unfolding(crate::specs::ReadingStatements::block_with))]
 fn block<'a>(
     arena: &'a Arena,
-    items: &[Item<'a>],
+    tokens: &[Token<'a>],
     at: &mut usize,
     room: u32,
 ) -> Result<&'a [Stmt<'a>], Stop>
-    ensures { Gives (λ x. (map stmt_tree x.now, drop at.new (toks items.now))) result (block_with (stmt_at room) room (drop at.old (toks items.now))) }
+    ensures { Gives (λ x. (map stmt_tree x.now, drop at.new (toks tokens.now))) result (block_with (stmt_at room) room (drop at.old (toks tokens.now))) }
 {
-    take_open(Mark::OpenBrace, room, items, at)?;
-    let stmts = stmts(arena, Mark::CloseBrace, items, at, room - 1)?;
-    take_mark(Mark::CloseBrace, items, at)?;
+    take_open(Symbol::OpenBrace, room, tokens, at)?;
+    let stmts = stmts(arena, Symbol::CloseBrace, tokens, at, room - 1)?;
+    take_mark(Symbol::CloseBrace, tokens, at)?;
     Ok(stmts)
 }
 
@@ -60,14 +59,14 @@ fn block<'a>(
 #[tactic(auto, using(crate::proofs::code::Chains::chains), unfolding(crate::specs::ReadingStatements::block_stmt_with))]
 fn block_stmt<'a>(
     arena: &'a Arena,
-    items: &[Item<'a>],
+    tokens: &[Token<'a>],
     at: &mut usize,
     room: u32,
 ) -> Result<Stmt<'a>, Stop>
-    ensures { Gives (λ x. (stmt_tree x, drop at.new (toks items.now))) result (block_stmt_with (stmt_at room) room (drop at.old (toks items.now))) }
+    ensures { Gives (λ x. (stmt_tree x, drop at.new (toks tokens.now))) result (block_stmt_with (stmt_at room) room (drop at.old (toks tokens.now))) }
 {
-    let place = place(items, *at)?;
-    let stmts = block(arena, items, at, room)?;
+    let place = place(tokens, *at)?;
+    let stmts = block(arena, tokens, at, room)?;
     Ok(block_of(place, stmts))
 }
 
@@ -76,15 +75,15 @@ fn block_stmt<'a>(
 #[tactic(auto, using(crate::proofs::code::Chains::chains), unfolding(crate::specs::ReadingStatements::else_with))]
 fn other<'a>(
     arena: &'a Arena,
-    items: &[Item<'a>],
+    tokens: &[Token<'a>],
     at: &mut usize,
     room: u32,
 ) -> Result<Option<No<'a>>, Stop>
-    ensures { Gives (λ x. (else_tree x, drop at.new (toks items.now))) result (else_with (stmt_at room) room (drop at.old (toks items.now))) }
+    ensures { Gives (λ x. (else_tree x, drop at.new (toks tokens.now))) result (else_with (stmt_at room) room (drop at.old (toks tokens.now))) }
 {
-    if leads(Mark::Else, items, *at) {
-        let place = take_mark(Mark::Else, items, at)?;
-        let stmts = block(arena, items, at, room)?;
+    if leads(Symbol::Else, tokens, *at) {
+        let place = take_mark(Symbol::Else, tokens, at)?;
+        let stmts = block(arena, tokens, at, room)?;
         return Ok(Some(otherwise(place, stmts)));
     }
     Ok(None)
@@ -95,16 +94,16 @@ fn other<'a>(
 #[tactic(auto, using(crate::proofs::code::Chains::chains), unfolding(crate::specs::ReadingStatements::if_with))]
 fn if_stmt<'a>(
     arena: &'a Arena,
-    items: &[Item<'a>],
+    tokens: &[Token<'a>],
     at: &mut usize,
     room: u32,
 ) -> Result<Stmt<'a>, Stop>
-    ensures { Gives (λ x. (stmt_tree x, drop at.new (toks items.now))) result (if_with (stmt_at room) room (drop at.old (toks items.now))) }
+    ensures { Gives (λ x. (stmt_tree x, drop at.new (toks tokens.now))) result (if_with (stmt_at room) room (drop at.old (toks tokens.now))) }
 {
-    let place = take_mark(Mark::If, items, at)?;
-    let cond = path(arena, items, at)?;
-    let body = block(arena, items, at, room)?;
-    let other = other(arena, items, at, room)?;
+    let place = take_mark(Symbol::If, tokens, at)?;
+    let cond = path(arena, tokens, at)?;
+    let body = block(arena, tokens, at, room)?;
+    let other = other(arena, tokens, at, room)?;
     Ok(choice(place, cond, body, other))
 }
 
@@ -113,16 +112,16 @@ fn if_stmt<'a>(
 #[tactic(auto, using(crate::proofs::code::Chains::chains), unfolding(crate::specs::ReadingStatements::with_with))]
 fn with_stmt<'a>(
     arena: &'a Arena,
-    items: &[Item<'a>],
+    tokens: &[Token<'a>],
     at: &mut usize,
     room: u32,
 ) -> Result<Stmt<'a>, Stop>
-    ensures { Gives (λ x. (stmt_tree x, drop at.new (toks items.now))) result (with_with (stmt_at room) room (drop at.old (toks items.now))) }
+    ensures { Gives (λ x. (stmt_tree x, drop at.new (toks tokens.now))) result (with_with (stmt_at room) room (drop at.old (toks tokens.now))) }
 {
-    let place = take_mark(Mark::With, items, at)?;
-    let setup = block(arena, items, at, room)?;
-    take_mark(Mark::Do, items, at)?;
-    let work = block(arena, items, at, room)?;
+    let place = take_mark(Symbol::With, tokens, at)?;
+    let setup = block(arena, tokens, at, room)?;
+    take_mark(Symbol::Do, tokens, at)?;
+    let work = block(arena, tokens, at, room)?;
     Ok(with_block(place, setup, work))
 }
 
@@ -131,20 +130,20 @@ fn with_stmt<'a>(
 #[tactic(auto, unfolding(crate::specs::ReadingStatements::stmt_at, crate::specs::ReadingStatements::stmt_with))]
 fn stmt<'a>(
     arena: &'a Arena,
-    items: &[Item<'a>],
+    tokens: &[Token<'a>],
     at: &mut usize,
     room: u32,
 ) -> Result<Stmt<'a>, Stop>
-    ensures { Gives (λ x. (stmt_tree x, drop at.new (toks items.now))) result (stmt_at (suc room) (drop at.old (toks items.now))) }
+    ensures { Gives (λ x. (stmt_tree x, drop at.new (toks tokens.now))) result (stmt_at (suc room) (drop at.old (toks tokens.now))) }
 {
-    if leads(Mark::If, items, *at) {
-        return if_stmt(arena, items, at, room);
+    if leads(Symbol::If, tokens, *at) {
+        return if_stmt(arena, tokens, at, room);
     }
-    if leads(Mark::With, items, *at) {
-        return with_stmt(arena, items, at, room);
+    if leads(Symbol::With, tokens, *at) {
+        return with_stmt(arena, tokens, at, room);
     }
-    if leads(Mark::OpenBrace, items, *at) {
-        return block_stmt(arena, items, at, room);
+    if leads(Symbol::OpenBrace, tokens, *at) {
+        return block_stmt(arena, tokens, at, room);
     }
-    plain_stmt(arena, items, at, room)
+    plain_stmt(arena, tokens, at, room)
 }

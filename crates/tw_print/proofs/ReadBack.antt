@@ -8,7 +8,7 @@ use Rattle.tw_syntax.specs.Programs.{ProgramTree}
 use Rattle.tw_parse.specs.Sources.{IsSource}
 use Rattle.tw_parse.specs.Statements.{ProgramForm, program_text}
 use Rattle.tw_parse.specs.Trees.{decls_tree, HasTree}
-use Rattle.tw_parse.specs.Words.{Tok}
+use Rattle.tw_lex.specs.Tokens.{Lexed}
 use Rattle.tw_parse.proofs.Elsewhere.{same_words}
 use Rattle.tw_print.specs.Programs.{program_print}
 use Rattle.tw_print.specs.ReadBack.{ReadsBack}
@@ -17,7 +17,7 @@ use Rattle.tw_print.proofs.GoodWords.{good_words}
 use Rattle.tw_print.proofs.SpeltPrograms.{decls_spelt}
 
 read_nothing : (at : Pos) → ReadAt [] at []
-read_nothing at = record { lexed = []; others = []; has = record { pieces = []; end = at; splits = (refl, refl, refl) }; seen = tt; same = refl }
+read_nothing at = record { others = []; has = record { pieces = []; end = at; splits = (refl, refl, refl) }; same = refl }
 
 leads_nothing : Leads Clear [] []
 leads_nothing = record {
@@ -31,21 +31,21 @@ form_leads : (form : ProgramForm) → AllGood (program_text form []) → Leads C
 form_leads form good =
     subst (λ (bytes : List ℕ). Leads Clear bytes (program_text form [])) (append-nil (program_print (record { decls = decls_tree form }))) ((decls_spelt form).leads good [] leads_nothing)
 
-tree_leads : (tree : ProgramTree) (toks : List Tok) → HasTree toks tree → AllGood toks → Leads Clear (program_print tree) toks
+tree_leads : (tree : ProgramTree) (toks : List Lexed) → HasTree toks tree → AllGood toks → Leads Clear (program_print tree) toks
 tree_leads tree toks has good =
     let form = has.0.0 in
     let is : program_text form [] ≡ toks = sym has.0.1 in
     let printed = form_leads form (subst AllGood has.0.1 good) in
-    subst (λ (t : ProgramTree). Leads Clear (program_print t) toks) (sym has.1) (subst (λ (ts : List Tok). Leads Clear (program_print (record { decls = decls_tree form })) ts) is printed)
+    subst (λ (t : ProgramTree). Leads Clear (program_print t) toks) (sym has.1) (subst (λ (ts : List Lexed). Leads Clear (program_print (record { decls = decls_tree form })) ts) is printed)
 
 -- the tree of a source
 pub reads_back : (tree : ProgramTree) (source : List ℕ) → IsSource source tree → ReadsBack tree
 reads_back tree source s =
-    let leads = tree_leads tree s.toks s.has_tree (good_words source s.toks s.text s.has) in
+    let leads = tree_leads tree s.toks s.has_tree (good_words source first_place s.toks s.text s.has) in
     let r = leads.read first_place in
     let w = same_words s.toks r.others tree r.same s.has_tree s.shallow in
     record {
       again = w.0;
-      source = record { text = leads.text; toks = r.others; has = record { lexed = r.lexed; splits = r.has; seen = r.seen }; has_tree = w.1; shallow = w.2 };
+      source = record { text = leads.text; toks = r.others; has = r.has; has_tree = w.1; shallow = w.2 };
       same = w.3;
     }

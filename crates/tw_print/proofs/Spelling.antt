@@ -1,14 +1,11 @@
 -- When a text spells tokens in front of whatever may follow it, and that such texts stand one behind the other.
-use Rattle.std.proofs.Common.{◌≡◌, sym, subst, ℕ, ◌<◌, ◌^◌, ◌==◌, Bool, true, false, ◌||◌, List, [], ◌∷◌, ◌++◌, append_assoc, map, IsUtf8, chars, encode_utf8_all, refl}
+use Rattle.std.proofs.Common.{◌≡◌, sym, subst, ℕ, ◌<◌, ◌^◌, ◌==◌, Bool, true, false, ◌||◌, List, [], ◌∷◌, ◌++◌, append_assoc, map, None, IsUtf8, chars, encode_utf8_all, refl}
 use Rattle.std.proofs.Math.Utf8.{scalars}
 use Rattle.std.specs.List.{list_all}
 use Rattle.unicode_ident.specs.Ident.{is_xid_continue}
 use Rattle.tw_text.specs.declared.place.Pos.{Pos}
-use Rattle.tw_lex.specs.Marks.{reserved_words, is_among}
-use Rattle.tw_lex.specs.Tokens as lex
-use Rattle.tw_lex.specs.Tokens.{HasTokens, Ends, starts_name}
-use Rattle.tw_parse.specs.Lexed.{AreSeen}
-use Rattle.tw_parse.specs.Words.{W, Name, Number, Sign, Tok}
+use Rattle.tw_lex.specs.Symbols.{symbol_of}
+use Rattle.tw_lex.specs.Tokens.{Lexeme, Name, Number, Sign, Lexed, HasTokens, Ends, starts_name}
 
 -- what may follow: anything, nothing that goes on with a name, or nothing that makes a mark a longer one
 pub data Edge : Type 0 where
@@ -23,15 +20,13 @@ bars Wordy c = is_xid_continue c
 bars Short c = (c == 45) || ((c == 61) || (c == 62))
 
 -- the characters from this place on have tokens with the words of these
-pub record ReadAt (cs : List ℕ) (at : Pos) (toks : List Tok) : Type 0 where
-  pub lexed : List lex.Tok
-  pub others : List Tok
-  pub has : HasTokens cs at lexed
-  pub seen : AreSeen lexed others
-  pub same : map (λ (t : Tok). t.word) toks ≡ map (λ (t : Tok). t.word) others
+pub record ReadAt (cs : List ℕ) (at : Pos) (toks : List Lexed) : Type 0 where
+  pub others : List Lexed
+  pub has : HasTokens cs at others
+  pub same : map (λ (t : Lexed). t.lexeme) toks ≡ map (λ (t : Lexed). t.lexeme) others
 
 -- a text with the words of these tokens, which may follow
-pub record Leads (edge : Edge) (bytes : List ℕ) (toks : List Tok) : Type 0 where
+pub record Leads (edge : Edge) (bytes : List ℕ) (toks : List Lexed) : Type 0 where
   pub text : IsUtf8 bytes
   pub read : (at : Pos) → ReadAt (chars bytes) at toks
   pub ends : Ends (bars edge) (chars bytes)
@@ -44,46 +39,46 @@ pub record IsName (text : List ℕ) : Type 0 where
   pub is : encode_utf8_all (first ∷ more) ≡ text
   pub starts : starts_name first ≡ true
   pub goes_on : list_all is_xid_continue more ≡ true
-  pub unreserved : is_among (first ∷ more) reserved_words ≡ false
+  pub no_keyword : symbol_of (first ∷ more) ≡ None
 
 -- a word that stands in some text
-abbrev pub IsGood : W → Type 0
+abbrev pub IsGood : Lexeme → Type 0
 IsGood (Name text) = IsName text
 IsGood (Number value) = value < 2 ^ 64
 IsGood (Sign mark) = Unit {0}
 
-abbrev pub AllGood : List Tok → Type 0
+abbrev pub AllGood : List Lexed → Type 0
 AllGood [] = Unit {0}
-AllGood (t ∷ ts) = IsGood t.word × AllGood ts
+AllGood (t ∷ ts) = IsGood t.lexeme × AllGood ts
 
 -- in front of a text that may follow edge `b` and has the tokens `us`, this one makes a text that may follow edge `a` and has the tokens `ts`
-pub record Spelt (a b : Edge) (text : List ℕ) (ts us : List Tok) : Type 0 where
+pub record Spelt (a b : Edge) (text : List ℕ) (ts us : List Lexed) : Type 0 where
   pub good : AllGood ts → AllGood us
   pub leads : AllGood ts → (rest : List ℕ) → Leads b rest us → Leads a (text ++ rest) ts
 
 infixr 30 ◌▹◌
 -- one text, and another behind it
-pub ◌▹◌ : {a b c : Edge} {x y : List ℕ} {ts us vs : List Tok} → Spelt a b x ts us → Spelt b c y us vs → Spelt a c (x ++ y) ts vs
+pub ◌▹◌ : {a b c : Edge} {x y : List ℕ} {ts us vs : List Lexed} → Spelt a b x ts us → Spelt b c y us vs → Spelt a c (x ++ y) ts vs
 ◌▹◌ {a} {x = x} {y = y} {ts = ts} s t = record {
   good = λ g. t.good (s.good g);
   leads = λ g rest l. subst (λ (z : List ℕ). Leads a z ts) (sym (append_assoc x y rest)) (s.leads g (y ++ rest) (t.leads (s.good g) rest l));
 }
 
 -- no text
-pub spelt_none : {a : Edge} {ts : List Tok} → Spelt a a [] ts ts
+pub spelt_none : {a : Edge} {ts : List Lexed} → Spelt a a [] ts ts
 spelt_none = record { good = λ g. g; leads = λ g rest l. l }
 
 pub ends_clear : (cs : List ℕ) → Ends (bars Clear) cs
 ends_clear [] = refl
 ends_clear (c ∷ cs) = refl
 
-leads_clear : (edge : Edge) (bytes : List ℕ) (toks : List Tok) → Leads edge bytes toks → Leads Clear bytes toks
+leads_clear : (edge : Edge) (bytes : List ℕ) (toks : List Lexed) → Leads edge bytes toks → Leads Clear bytes toks
 leads_clear edge bytes toks l = record { text = l.text; read = l.read; ends = ends_clear (chars bytes) }
 
 -- what stands behind some edge stands behind none
-pub loose : {a b : Edge} {text : List ℕ} {ts us : List Tok} → Spelt a b text ts us → Spelt Clear b text ts us
+pub loose : {a b : Edge} {text : List ℕ} {ts us : List Lexed} → Spelt a b text ts us → Spelt Clear b text ts us
 loose {a} {text = text} {ts = ts} s = record { good = s.good; leads = λ g rest l. leads_clear a (text ++ rest) ts (s.leads g rest l) }
 
 -- what anything may follow
-pub tight : {a b : Edge} {text : List ℕ} {ts us : List Tok} → Spelt a Clear text ts us → Spelt a b text ts us
+pub tight : {a b : Edge} {text : List ℕ} {ts us : List Lexed} → Spelt a Clear text ts us → Spelt a b text ts us
 tight {b = b} {us = us} s = record { good = s.good; leads = λ g rest l. s.leads g rest (leads_clear b rest us l) }

@@ -1,5 +1,5 @@
 -- Marks, words, names, numbers and white space spell what they are.
-use Rattle.std.proofs.Common.{◌≡◌, ◌∙◌, sym, ap, ℕ, ◌≤◌, ◌<◌, ◌^◌, ◌==◌, Bool, true, false, not, ◌||◌, ◌&&◌, if◌then◌else◌, List, [], ◌∷◌, ◌++◌, length, Some, codes, decimal, encode_utf8_all, refl, arith}
+use Rattle.std.proofs.Common.{◌≡◌, ◌∙◌, sym, ap, ℕ, ◌≤◌, ◌<◌, ◌^◌, ◌==◌, Bool, true, false, not, ◌||◌, ◌&&◌, if◌then◌else◌, List, [], ◌∷◌, ◌++◌, length, Option, Some, codes, decimal, encode_utf8_all, refl, arith}
 use Rattle.std.proofs.Math.Utf8.{scalars, encode}
 use Rattle.std.proofs.lemmas.Bool.{and_parts}
 use Rattle.std.proofs.lemmas.Bool.Decides.{Decides-eqb}
@@ -11,41 +11,35 @@ use Rattle.std.specs.Str.{bytes_eq}
 use Rattle.unicode_ident.specs.Ident.{is_xid_continue}
 use Rattle.unicode_ident.proofs.Computing.{unicode_ident}
 use Rattle.tw_text.specs.declared.place.Pos.{Pos}
-use Rattle.tw_lex.specs.declared.token.TokenKind.TheVariants as kind
-use Rattle.tw_lex.specs.Marks.{marks, reserved_words, is_among}
-use Rattle.tw_lex.specs.Tokens.{Piece, Blank, Letters, Digits, Sign, piece_text, piece_kind, starts_name, starts_with, Stands, Ends}
-use Rattle.tw_parse.specs.declared.word.Mark.{Mark}
-use Rattle.tw_parse.specs.declared.word.Mark.TheVariants as m
-use Rattle.tw_parse.specs.Lexed.{IsWord}
-use Rattle.tw_parse.specs.Words as word
-use Rattle.tw_parse.specs.Words.{Tok, mark_text, name_at, number_at, sign_at}
+use Rattle.tw_lex.specs.declared.symbol.Symbol.{Symbol}
+use Rattle.tw_lex.specs.declared.symbol.Symbol.TheVariants as symbols
+use Rattle.tw_lex.specs.Symbols.{symbol_text, all_symbols, find_symbol, symbol_of, is_keyword, starts_with}
+use Rattle.tw_lex.specs.Tokens.{Name, Sign, Lexed, name_at, number_at, sign_at, Piece, Blank, Letters, Digits, Operator, piece_text, piece_lexeme, word_lexeme, starts_name, Stands, Ends}
+use Rattle.tw_lex.proofs.SymbolTexts.{symbol_of-text}
 use Rattle.tw_print.proofs.Spelling.{Edge, Clear, Wordy, Short, bars, IsName, Spelt, ends_clear}
 use Rattle.tw_print.proofs.SpeltPieces.{Fits, spelt_blank, leads_token}
 
-abbrev is_word : Mark → Bool
-is_word mark = is_among (mark_text mark) reserved_words
-
 -- what may follow a mark or a word
-abbrev pub edge_of : Mark → Edge
-edge_of m.Gets = Short
-edge_of m.Less = Short
-edge_of m.Is = Short
-edge_of m.Minus = Short
-edge_of mark = if is_word mark then Wordy else Clear
+abbrev pub edge_of : Symbol → Edge
+edge_of symbols.Assign = Short
+edge_of symbols.Less = Short
+edge_of symbols.Define = Short
+edge_of symbols.Minus = Short
+edge_of mark = if is_keyword mark then Wordy else Clear
 
 -- whether it stands behind an edge
-abbrev pub enters : Edge → Mark → Bool
+abbrev pub enters : Edge → Symbol → Bool
 enters Clear mark = true
-enters Wordy mark = not (is_word mark)
-enters Short mark = starts_with (λ c. not (bars Short c)) (mark_text mark)
+enters Wordy mark = not (is_keyword mark)
+enters Short mark = starts_with (λ c. not (bars Short c)) (symbol_text mark)
 
 -- it as a piece
 abbrev letters : List ℕ → Piece
-letters [] = Sign []
+letters [] = Blank 32
 letters (c ∷ cs) = Letters c cs
 
-abbrev mark_piece : Mark → Piece
-mark_piece mark = if is_word mark then letters (mark_text mark) else Sign (mark_text mark)
+abbrev mark_piece : Symbol → Piece
+mark_piece mark = if is_keyword mark then letters (symbol_text mark) else Operator mark
 
 -- whether another mark, where it begins here, is no longer than this one, since such characters do not follow
 abbrev is_no_longer : (ℕ → Bool) → List ℕ → List ℕ → Bool
@@ -64,76 +58,80 @@ no_longer barred (x ∷ xs) (y ∷ ys) rest more none ends e =
     let shorter = no_longer barred xs ys rest more (rw ((Decides-eqb x y).1 head) at none) ends tails in
     omega (arith, shorter)
 
-none_longer : (barred : ℕ → Bool) (mark other rest more : List ℕ) (texts : List (List ℕ)) → list_all (is_no_longer barred mark) texts ≡ true → is_among other texts ≡ true
-    → Ends barred rest → mark ++ rest ≡ other ++ more → length other ≤ length mark
-none_longer barred mark other rest more [] all among ends e = absurd (cc)
-none_longer barred mark other rest more (text ∷ texts) all among ends e =
-    let parts = and_parts (is_no_longer barred mark text) (list_all (is_no_longer barred mark) texts) all in
-    elim (bytes_eq text other) as (λ k. (bytes_eq text other ≡ k) → (k || is_among other texts) ≡ true → length other ≤ length mark) [
-      | true ↦ λ same h. no_longer barred mark other rest more (rw (← (bytes_eq-Decides text other).0 same) parts.0) ends e
-      | false ↦ λ same h. none_longer barred mark other rest more texts parts.1 h ends e
-    ] refl among
-
 -- whether a piece stands in front of whatever may follow the edge
 abbrev checks : Edge → Piece → Bool
-checks edge (Sign cs) = is_among cs marks && list_all (is_no_longer (bars edge) cs) marks
+checks edge (Operator symbol) = not (is_keyword symbol) && list_all (λ other. is_no_longer (bars edge) (symbol_text symbol) (symbol_text other)) all_symbols
 checks Wordy (Letters c cs) = starts_name c && list_all is_xid_continue cs
 checks edge piece = false
 
+no_keyword : (symbol : Symbol) → not (is_keyword symbol) ≡ true → is_keyword symbol ≡ false
+no_keyword symbol h = elim (is_keyword symbol) as (λ k. not k ≡ true → k ≡ false) [ true ↦ λ e. absurd (cc) | false ↦ λ e. refl ] h
+
+-- what all symbols of a list pass
+listed_passes : (test : Symbol → Bool) (list : List Symbol) (other : Symbol) (text : List ℕ) → list_all test list ≡ true → find_symbol list text ≡ Some other → test other ≡ true
+listed_passes test [] other text all found = absurd (cc)
+listed_passes test (symbol ∷ list) other text all found =
+    let parts = and_parts (test symbol) (list_all test list) all in
+    elim (bytes_eq (symbol_text symbol) text) as (λ k. (if k then Some symbol else find_symbol list text) ≡ Some other → test other ≡ true) [
+      | true ↦ λ e. let same : symbol ≡ other = cc in rw (← same) parts.0
+      | false ↦ λ e. listed_passes test list other text parts.1 e
+    ] found
+
+passes : (test : Symbol → Bool) (other : Symbol) → list_all test all_symbols ≡ true → test other ≡ true
+unfolding symbol_of
+passes test other all = listed_passes test all_symbols other (symbol_text other) all (symbol_of-text other)
+
 stands_checked : (edge : Edge) (p : Piece) (rest : List ℕ) → checks edge p ≡ true → Ends (bars edge) rest → Stands p rest
-stands_checked edge (Sign cs) rest h ends =
-    let both = and_parts (is_among cs marks) (list_all (is_no_longer (bars edge) cs) marks) h in
-    (both.0, λ other more among e. none_longer (bars edge) cs other rest more marks both.1 among ends e)
+stands_checked edge (Operator symbol) rest h ends =
+    let both = and_parts (not (is_keyword symbol)) (list_all (λ other. is_no_longer (bars edge) (symbol_text symbol) (symbol_text other)) all_symbols) h in
+    (no_keyword symbol both.0, λ other more e. no_longer (bars edge) (symbol_text symbol) (symbol_text other) rest more (passes (λ o. is_no_longer (bars edge) (symbol_text symbol) (symbol_text o)) other both.1) ends e)
 stands_checked Wordy (Letters c cs) rest h ends = let both = and_parts (starts_name c) (list_all is_xid_continue cs) h in (both.0, both.1, ends)
 stands_checked edge p rest h ends = absurd (cc)
 
-mark_checks : (mark : Mark) → checks (edge_of mark) (mark_piece mark) ≡ true
+mark_checks : (mark : Symbol) → checks (edge_of mark) (mark_piece mark) ≡ true
 unfolding unicode_ident
-mark_checks m.Exchange = refl
+mark_checks symbols.Swap = refl
 mark_checks mark = refl
 
-mark_scalar : (mark : Mark) → scalars (piece_text (mark_piece mark)) ≡ true
-mark_scalar m.Exchange = refl
+mark_scalar : (mark : Symbol) → scalars (piece_text (mark_piece mark)) ≡ true
+mark_scalar symbols.Swap = refl
 mark_scalar mark = refl
 
-mark_bytes : (mark : Mark) → encode_utf8_all (piece_text (mark_piece mark)) ≡ mark_text mark
+mark_bytes : (mark : Symbol) → encode_utf8_all (piece_text (mark_piece mark)) ≡ symbol_text mark
 unfolding encode
-mark_bytes m.Exchange = refl
+mark_bytes symbols.Swap = refl
 mark_bytes mark = refl
 
-mark_kind : (mark : Mark) → piece_kind (mark_piece mark) ≡ Some (if is_word mark then kind.Word else kind.Mark)
-mark_kind m.Exchange = refl
-mark_kind mark = refl
-
-mark_word : (mark : Mark) → IsWord (if is_word mark then kind.Word else kind.Mark) (piece_text (mark_piece mark)) (word.Sign mark)
-mark_word m.Exchange = (m.Exchange, refl, refl)
-mark_word mark = (mark, refl, refl)
+mark_lexeme : (mark : Symbol) → piece_lexeme (mark_piece mark) ≡ Some (Sign mark)
+unfolding symbol_of
+mark_lexeme symbols.Swap = refl
+mark_lexeme mark = refl
 
 -- a character at the front that is not barred
 front_free : (test : ℕ → Bool) (cs rest : List ℕ) → starts_with (λ c. not (test c)) cs ≡ true → Ends test (cs ++ rest)
 front_free test [] rest h = absurd (cc)
 front_free test (c ∷ cs) rest h = elim (test c) as (λ k. not k ≡ true → k ≡ false) [ true ↦ λ e. absurd (cc) | false ↦ λ e. refl ] h
 
-mark_front : (mark : Mark) → enters Wordy mark ≡ starts_with (λ c. not (bars Wordy c)) (piece_text (mark_piece mark))
+mark_front : (mark : Symbol) → enters Wordy mark ≡ starts_with (λ c. not (bars Wordy c)) (piece_text (mark_piece mark))
 unfolding unicode_ident
-mark_front m.Exchange = refl
+mark_front symbols.Swap = refl
 mark_front mark = refl
 
-mark_same : (mark : Mark) → piece_text (mark_piece mark) ≡ mark_text mark
-mark_same m.Exchange = refl
+mark_same : (mark : Symbol) → piece_text (mark_piece mark) ≡ symbol_text mark
+mark_same symbols.Swap = refl
 mark_same mark = refl
 
-mark_enters : (a : Edge) (mark : Mark) (rest : List ℕ) → enters a mark ≡ true → Ends (bars a) (piece_text (mark_piece mark) ++ rest)
+mark_enters : (a : Edge) (mark : Symbol) (rest : List ℕ) → enters a mark ≡ true → Ends (bars a) (piece_text (mark_piece mark) ++ rest)
 mark_enters Clear mark rest h = ends_clear (piece_text (mark_piece mark) ++ rest)
 mark_enters Wordy mark rest h = front_free (bars Wordy) (piece_text (mark_piece mark)) rest (sym (mark_front mark) ∙ h)
 mark_enters Short mark rest h =
     front_free (bars Short) (piece_text (mark_piece mark)) rest (ap (starts_with (λ c. not (bars Short c))) (mark_same mark) ∙ h)
 
 -- a mark or a word
-pub sign : {a : Edge} {p : Pos} {us : List Tok} (mark : Mark) → enters a mark ≡ true → Spelt a (edge_of mark) (mark_text mark) (sign_at mark p ∷ us) us
+pub sign : {a : Edge} {p : Pos} {us : List Lexed} (mark : Symbol) → enters a mark ≡ true → Spelt a (edge_of mark) (symbol_text mark) (sign_at mark p ∷ us) us
 sign {a} {p} mark h = record {
   good = λ g. g.1;
-  leads = λ g rest l. leads_token (mark_piece mark) (if is_word mark then kind.Word else kind.Mark) (sign_at mark p) (mark_kind mark) (mark_word mark) (record {
+  leads = λ g rest l. leads_token (mark_piece mark) (sign_at mark p) (mark_lexeme mark) (record {
     scalar = mark_scalar mark;
     is = mark_bytes mark;
     stands = λ behind ends. stands_checked (edge_of mark) (mark_piece mark) behind (mark_checks mark) ends;
@@ -168,11 +166,14 @@ name_fits {a} h n = record {
   enters = λ rest. letter_enters a n.first h n.starts;
 }
 
+name_lexeme : {text : List ℕ} (n : IsName text) → piece_lexeme (Letters n.first n.more) ≡ Some (Name text)
+name_lexeme {text} n = ap (λ (found : Option Symbol). Some (word_lexeme found (n.first ∷ n.more))) n.no_keyword ∙ ap (λ (x : List ℕ). Some (Name x)) n.is
+
 -- a name
-pub name : {a : Edge} {p : Pos} {us : List Tok} (text : List ℕ) → enters_name a ≡ true → Spelt a Wordy text (name_at text p ∷ us) us
+pub name : {a : Edge} {p : Pos} {us : List Lexed} (text : List ℕ) → enters_name a ≡ true → Spelt a Wordy text (name_at text p ∷ us) us
 name {p = p} text h = record {
   good = λ g. g.1;
-  leads = λ g rest l. leads_token (Letters g.0.first g.0.more) kind.Name (name_at text p) (ap (λ k. Some (if k then kind.Word else kind.Name)) g.0.unreserved) (ap word.Name (sym g.0.is)) (name_fits h g.0) l;
+  leads = λ g rest l. leads_token (Letters g.0.first g.0.more) (name_at text p) (name_lexeme g.0) (name_fits h g.0) l;
 }
 
 number_fits : {value : ℕ} → value < 2 ^ 64 → Fits Clear Wordy (Digits value) (decimal value)
@@ -186,8 +187,8 @@ number_fits {value} small =
     }
 
 -- a number
-pub number : {p : Pos} {us : List Tok} (value : ℕ) → Spelt Clear Wordy (decimal value) (number_at value p ∷ us) us
-number {p} value = record { good = λ g. g.1; leads = λ g rest l. leads_token (Digits value) (kind.Number value) (number_at value p) refl refl (number_fits g.0) l }
+pub number : {p : Pos} {us : List Lexed} (value : ℕ) → Spelt Clear Wordy (decimal value) (number_at value p ∷ us) us
+number {p} value = record { good = λ g. g.1; leads = λ g rest l. leads_token (Digits value) (number_at value p) refl (number_fits g.0) l }
 
 space_enters : (a : Edge) → bars a 32 ≡ false
 unfolding unicode_ident
@@ -196,7 +197,7 @@ space_enters Wordy = refl
 space_enters Short = refl
 
 -- a space
-pub space : {a : Edge} {us : List Tok} → Spelt a Clear (codes " ") us us
+pub space : {a : Edge} {us : List Lexed} → Spelt a Clear (codes " ") us us
 unfolding encode
 space {a} = spelt_blank (Blank 32) refl (record { scalar = refl; is = refl; stands = λ rest ends. refl; enters = λ rest. space_enters a })
 
@@ -207,6 +208,6 @@ line_enters Wordy = refl
 line_enters Short = refl
 
 -- the end of a line
-pub newline : {a : Edge} {us : List Tok} → Spelt a Clear (codes "\n") us us
+pub newline : {a : Edge} {us : List Lexed} → Spelt a Clear (codes "\n") us us
 unfolding encode
 newline {a} = spelt_blank (Blank 10) refl (record { scalar = refl; is = refl; stands = λ rest ends. refl; enters = λ rest. line_enters a })

@@ -4,36 +4,36 @@ use Rattle.std.proofs.lemmas.List.{append-nil}
 use Rattle.tw_parse.specs.declared.stop.Halt.{Halt}
 use Rattle.tw_parse.specs.declared.stop.Stop.{Stop}
 use Rattle.tw_parse.specs.declared.stop.Stop.TheVariants as stop
-use Rattle.tw_parse.specs.Words.{Tok}
+use Rattle.tw_lex.specs.Tokens.{Lexed}
 use Rattle.tw_parse.specs.Steps.{Reader, ◌>>=◌, Fails, many_at, all_at, put_first}
 
 -- what was read before, and what is still read
-abbrev pub with_front : {X : Type 0} → List X → Result (List X × List Tok) Halt → Result (List X × List Tok) Halt
+abbrev pub with_front : {X : Type 0} → List X → Result (List X × List Lexed) Halt → Result (List X × List Lexed) Halt
 with_front front read = read >>= λ x. Ok (front ++ x.0, x.1)
 
 -- these items were read, and at most so many more from these tokens make up the whole
-pub record Reads {X : Type 0} (goes : List Tok → Bool) (item : Reader X) (front : List X) (left : ℕ) (ts : List Tok) (whole : Result (List X × List Tok) Halt) : Type 0 where
+pub record Reads {X : Type 0} (goes : List Lexed → Bool) (item : Reader X) (front : List X) (left : ℕ) (ts : List Lexed) (whole : Result (List X × List Lexed) Halt) : Type 0 where
   pub same : with_front front (many_at goes item left ts) ≡ whole
 
-regroup : {X : Type 0} (front : List X) (x : X) (read : Result (List X × List Tok) Halt) → with_front front (read >>= λ y. Ok (x ∷ y.0, y.1)) ≡ with_front (front ++ x ∷ []) read
+regroup : {X : Type 0} (front : List X) (x : X) (read : Result (List X × List Lexed) Halt) → with_front front (read >>= λ y. Ok (x ∷ y.0, y.1)) ≡ with_front (front ++ x ∷ []) read
 regroup {X} front x (Ok y) = ap (λ (xs : List X). Ok (xs, y.1)) (simp append_assoc)
 regroup front x (Err e) = refl
 
-front_none : {X : Type 0} (read : Result (List X × List Tok) Halt) → with_front [] read ≡ read
+front_none : {X : Type 0} (read : Result (List X × List Lexed) Halt) → with_front [] read ≡ read
 front_none (Ok x) = refl
 front_none (Err e) = refl
 
-pub starts : {X : Type 0} {goes : List Tok → Bool} {item : Reader X} (count : ℕ) (ts : List Tok) → count ≡ length ts → Reads goes item [] (count - 0) ts (all_at goes item ts)
+pub starts : {X : Type 0} {goes : List Lexed → Bool} {item : Reader X} (count : ℕ) (ts : List Lexed) → count ≡ length ts → Reads goes item [] (count - 0) ts (all_at goes item ts)
 starts {goes = goes} {item = item} count ts e =
     let k : count - 0 ≡ length ts = omega (arith, e) in
     record { same = rw k (front_none (all_at goes item ts)) }
 
-pub starts_with : {X : Type 0} {goes : List Tok → Bool} {item : Reader X} (x : X) (count : ℕ) (ts : List Tok) → count ≡ length ts → Reads goes item (x ∷ []) (count - 0) ts (put_first x (all_at goes item ts))
+pub starts_with : {X : Type 0} {goes : List Lexed → Bool} {item : Reader X} (x : X) (count : ℕ) (ts : List Lexed) → count ≡ length ts → Reads goes item (x ∷ []) (count - 0) ts (put_first x (all_at goes item ts))
 starts_with {goes = goes} {item = item} x count ts e =
     let k : count - 0 ≡ length ts = omega (arith, e) in
     record { same = rw k refl }
 
-pub goes_on : {X : Type 0} {goes : List Tok → Bool} {item : Reader X} {front : List X} {count i : ℕ} {ts us : List Tok} {x : X} {whole : Result (List X × List Tok) Halt}
+pub goes_on : {X : Type 0} {goes : List Lexed → Bool} {item : Reader X} {front : List X} {count i : ℕ} {ts us : List Lexed} {x : X} {whole : Result (List X × List Lexed) Halt}
     → Reads goes item front (count - i) ts whole → i < count → goes ts ≡ true → item ts ≡ Ok (x, us) → Reads goes item (front ++ x ∷ []) (count - (i + 1)) us whole
 unfolding many_at
 goes_on {goes = goes} {item = item} {front = front} {count = count} {i = i} {ts = ts} {us = us} {x = x} so_far lt going h =
@@ -42,7 +42,7 @@ goes_on {goes = goes} {item = item} {front = front} {count = count} {i = i} {ts 
     rw (k, going, h) (regroup front x (many_at goes item (count - (i + 1)) us)) in
     record { same = sym one ∙ so_far.same }
 
-pub fails : {X : Type 0} {goes : List Tok → Bool} {item : Reader X} {front : List X} {count i : ℕ} {ts : List Tok} {whole : Result (List X × List Tok) Halt}
+pub fails : {X : Type 0} {goes : List Lexed → Bool} {item : Reader X} {front : List X} {count i : ℕ} {ts : List Lexed} {whole : Result (List X × List Lexed) Halt}
     (e : Stop) → Reads goes item front (count - i) ts whole → i < count → goes ts ≡ true → Fails e (item ts) → Fails e whole
 unfolding many_at
 fails stop.Memory so_far lt going h = tt
@@ -56,17 +56,17 @@ pub fails_first : {A B : Type 0} (e : Stop) (read : Result A Halt) (next : A →
 fails_first stop.Memory read next h = tt
 fails_first (stop.Halt halt) read next h = rw h refl
 
-many_none : {X : Type 0} (goes : List Tok → Bool) (item : Reader X) (n : ℕ) (ts : List Tok) → goes ts ≡ false → many_at goes item n ts ≡ Ok ([], ts)
+many_none : {X : Type 0} (goes : List Lexed → Bool) (item : Reader X) (n : ℕ) (ts : List Lexed) → goes ts ≡ false → many_at goes item n ts ≡ Ok ([], ts)
 unfolding many_at
 many_none goes item zero ts h = refl
 many_none goes item (suc n) ts h = rw h refl
 
-pub stops : {X : Type 0} {goes : List Tok → Bool} {item : Reader X} {front : List X} {left : ℕ} {ts : List Tok} {whole : Result (List X × List Tok) Halt}
+pub stops : {X : Type 0} {goes : List Lexed → Bool} {item : Reader X} {front : List X} {left : ℕ} {ts : List Lexed} {whole : Result (List X × List Lexed) Halt}
     → Reads goes item front left ts whole → goes ts ≡ false → whole ≡ Ok (front, ts)
 stops {X} {goes = goes} {item = item} {front = front} {left = left} {ts = ts} so_far h =
     sym so_far.same ∙ rw (many_none goes item left ts h) (ap (λ (xs : List X). Ok (xs, ts)) (append-nil front))
 
-pub is_done : {X : Type 0} {goes : List Tok → Bool} {item : Reader X} {front : List X} {count i : ℕ} {ts : List Tok} {whole : Result (List X × List Tok) Halt}
+pub is_done : {X : Type 0} {goes : List Lexed → Bool} {item : Reader X} {front : List X} {count i : ℕ} {ts : List Lexed} {whole : Result (List X × List Lexed) Halt}
     → Reads goes item front (count - i) ts whole → count ≤ i → whole ≡ Ok (front, ts)
 unfolding many_at
 is_done {X} {goes = goes} {item = item} {front = front} {count = count} {i = i} {ts = ts} so_far le =

@@ -4,17 +4,17 @@ use Rattle.std.specs.Option.{option_map}
 use Rattle.tw_syntax.specs.Unplaced.{no_place, unplaced_name, unplaced_path, unplaced_written, unplaced_atom, unplaced_expr, unplaced_bound, unplaced_rhs}
 use Rattle.tw_syntax.specs.Types as types
 use Rattle.tw_syntax.specs.Terms as terms
-use Rattle.tw_parse.specs.Words.{Tok}
+use Rattle.tw_lex.specs.Tokens.{Lexed}
 use Rattle.tw_parse.specs.Grammar.{TypeForm, type_text, StepsForm, steps_text, PathForm, path_text, AtomForm, atom_text, ExprForm, expr_text, BoundForm, bound_text, CallBoundForm, call_bound_text, MoreNamesForm, more_names_text, NamesForm, names_text, RhsForm, rhs_text}
 use Rattle.tw_parse.specs.Trees.{named, op_kind, type_tree, steps_tree, path_tree, atom_place, atom_tree, expr_tree, bound_tree, call_bound_tree, more_names_tree, names_tree, rhs_tree}
 
 -- a token without its place
-abbrev pub unplaced_tok : Tok → Tok
-unplaced_tok t = record { word = t.word; at = no_place }
+abbrev pub unplaced_tok : Lexed → Lexed
+unplaced_tok t = record { lexeme = t.lexeme; at = no_place }
 
 -- in front of tokens without places the first text is the second one without places
-abbrev pub Unplaces : (List Tok → List Tok) → (List Tok → List Tok) → Type 0
-Unplaces text placed = (k l : List Tok) → k ≡ map unplaced_tok l → text k ≡ map unplaced_tok (placed l)
+abbrev pub Unplaces : (List Lexed → List Lexed) → (List Lexed → List Lexed) → Type 0
+Unplaces text placed = (k l : List Lexed) → k ≡ map unplaced_tok l → text k ≡ map unplaced_tok (placed l)
 
 -- The forms without their places.
 
@@ -72,7 +72,7 @@ unplaced_rhs_form (RhsForm.Call p callee bound q args r) = RhsForm.Call no_place
 unplaced_rhs_form (RhsForm.Plain expr) = RhsForm.Plain (unplaced_expr_form expr)
 
 -- the same tokens behind a token
-pub after : {t : Tok} {k l : List Tok} → k ≡ l → t ∷ k ≡ t ∷ l
+pub after : {t : Lexed} {k l : List Lexed} → k ≡ l → t ∷ k ≡ t ∷ l
 after {t = t} e = ap (λ k. t ∷ k) e
 
 -- The text of a form without its places is the form's text without places.

@@ -1,47 +1,47 @@
 -- Each move of the machine is a step of the grammar: parameters, functions and declarations.
 use Rattle.std.proofs.Common.{refl, ℕ, List, ◌∷◌}
 use Rattle.tw_text.specs.declared.place.Pos.{Pos}
-use Rattle.tw_parse.specs.declared.word.Mark.TheVariants as m
-use Rattle.tw_parse.specs.Words.{W, Name, Sign, Tok, name_at, sign_at}
+use Rattle.tw_lex.specs.declared.symbol.Symbol.TheVariants as symbols
+use Rattle.tw_lex.specs.Tokens.{Lexeme, Name, Sign, Lexed, name_at, sign_at}
 use Rattle.tw_parse.specs.Statements.{MoreParamsForm, ParamsForm, FunBoundForm, DeclForm}
 use Rattle.tw_parse.specs.Machine.{N, TheMark, Name', Type', FunBody', AfterFunName', FunParams', Params', MoreParams', Decl'}
 use Rattle.tw_parse.proofs.machine.Awaited.{spelled, joined, Has, Forest, Built}
 
-pub builds_more_params : (w : W) → Built MoreParams' w
-builds_more_params (Sign m.Comma) p ts st = λ f. further p ts st f
+pub builds_more_params : (w : Lexeme) → Built MoreParams' w
+builds_more_params (Sign symbols.Comma) p ts st = λ f. further p ts st f
   where
-    further : (p : Pos) (ts : List Tok) (st : List N) → Forest (Name' ∷ TheMark m.Colon refl ∷ Type' ∷ MoreParams' ∷ st) ts → Has MoreParams' (sign_at m.Comma p ∷ ts) (Forest st)
+    further : (p : Pos) (ts : List Lexed) (st : List N) → Forest (Name' ∷ TheMark symbols.Colon refl ∷ Type' ∷ MoreParams' ∷ st) ts → Has MoreParams' (sign_at symbols.Comma p ∷ ts) (Forest st)
     further p ts st f =
-        spelled (λ x. sign_at m.Comma p ∷ x) (λ c. (MoreParamsForm.MoreParams p (record { at = c.0.0.0.at; name = c.0.0.0.name; colon = c.0.0.1; ty = c.0.1 }) c.1.0, c.1.1)) (λ c k. refl)
+        spelled (λ x. sign_at symbols.Comma p ∷ x) (λ c. (MoreParamsForm.MoreParams p (record { at = c.0.0.0.at; name = c.0.0.0.name; colon = c.0.0.1; ty = c.0.1 }) c.1.0, c.1.1)) (λ c k. refl)
         (joined (joined (joined f)))
-builds_more_params (Sign m.Close) p ts st = λ f. record { form = (MoreParamsForm.NoMoreParams, p); rest = ts; parts = refl; more = f }
+builds_more_params (Sign symbols.CloseParen) p ts st = λ f. record { form = (MoreParamsForm.NoMoreParams, p); rest = ts; parts = refl; more = f }
 builds_more_params w p ts st = tt
 
-pub builds_params : (w : W) → Built Params' w
-builds_params (Sign m.Close) p ts st = λ f. record { form = (ParamsForm.NoParams, p); rest = ts; parts = refl; more = f }
+pub builds_params : (w : Lexeme) → Built Params' w
+builds_params (Sign symbols.CloseParen) p ts st = λ f. record { form = (ParamsForm.NoParams, p); rest = ts; parts = refl; more = f }
 builds_params (Name text) p ts st = λ f. first text p ts st f
   where
-    first : (text : List ℕ) (p : Pos) (ts : List Tok) (st : List N) → Forest (TheMark m.Colon refl ∷ Type' ∷ MoreParams' ∷ st) ts → Has Params' (name_at text p ∷ ts) (Forest st)
+    first : (text : List ℕ) (p : Pos) (ts : List Lexed) (st : List N) → Forest (TheMark symbols.Colon refl ∷ Type' ∷ MoreParams' ∷ st) ts → Has Params' (name_at text p ∷ ts) (Forest st)
     first text p ts st f =
         spelled (λ x. name_at text p ∷ x) (λ c. (ParamsForm.Params (record { at = p; name = text; colon = c.0.0; ty = c.0.1 }) c.1.0, c.1.1)) (λ c k. refl) (joined (joined f))
 builds_params w p ts st = tt
 
-pub builds_fun_params : (w : W) → Built FunParams' w
-builds_fun_params (Sign m.Open) p ts st = λ f. spelled (λ x. sign_at m.Open p ∷ x) (λ c. (p, c)) (λ c k. refl) f
+pub builds_fun_params : (w : Lexeme) → Built FunParams' w
+builds_fun_params (Sign symbols.OpenParen) p ts st = λ f. spelled (λ x. sign_at symbols.OpenParen p ∷ x) (λ c. (p, c)) (λ c k. refl) f
 builds_fun_params w p ts st = tt
 
-pub builds_after_fun_name : (w : W) → Built AfterFunName' w
-builds_after_fun_name (Sign m.OpenBracket) p ts st = λ f.
-    spelled (λ x. sign_at m.OpenBracket p ∷ x) (λ c. (FunBoundForm.FunBound p c.0.0.at c.0.0.name c.0.1, c.1)) (λ c k. refl) (joined (joined f))
-builds_after_fun_name (Sign m.Open) p ts st = λ f. spelled (λ x. sign_at m.Open p ∷ x) (λ c. (FunBoundForm.NoFunBound, (p, c))) (λ c k. refl) f
+pub builds_after_fun_name : (w : Lexeme) → Built AfterFunName' w
+builds_after_fun_name (Sign symbols.OpenBracket) p ts st = λ f.
+    spelled (λ x. sign_at symbols.OpenBracket p ∷ x) (λ c. (FunBoundForm.FunBound p c.0.0.at c.0.0.name c.0.1, c.1)) (λ c k. refl) (joined (joined f))
+builds_after_fun_name (Sign symbols.OpenParen) p ts st = λ f. spelled (λ x. sign_at symbols.OpenParen p ∷ x) (λ c. (FunBoundForm.NoFunBound, (p, c))) (λ c k. refl) f
 builds_after_fun_name w p ts st = tt
 
-alias : (p : Pos) (ts : List Tok) (st : List N) → Forest (Name' ∷ TheMark m.Is refl ∷ Type' ∷ TheMark m.Semicolon refl ∷ st) ts → Has Decl' (sign_at m.Type p ∷ ts) (Forest st)
-alias p ts st f = spelled (λ x. sign_at m.Type p ∷ x) (λ c. DeclForm.Alias p c.0.0.0.at c.0.0.0.name c.0.0.1 c.0.1 c.1) (λ c k. refl) (joined (joined (joined f)))
+alias : (p : Pos) (ts : List Lexed) (st : List N) → Forest (Name' ∷ TheMark symbols.Define refl ∷ Type' ∷ TheMark symbols.Semicolon refl ∷ st) ts → Has Decl' (sign_at symbols.Type p ∷ ts) (Forest st)
+alias p ts st f = spelled (λ x. sign_at symbols.Type p ∷ x) (λ c. DeclForm.Alias p c.0.0.0.at c.0.0.0.name c.0.0.1 c.0.1 c.1) (λ c k. refl) (joined (joined (joined f)))
 
-function : (p : Pos) (ts : List Tok) (st : List N) → Forest (Name' ∷ AfterFunName' ∷ TheMark m.Arrow refl ∷ Type' ∷ FunBody' ∷ st) ts → Has Decl' (sign_at m.Fun p ∷ ts) (Forest st)
+function : (p : Pos) (ts : List Lexed) (st : List N) → Forest (Name' ∷ AfterFunName' ∷ TheMark symbols.Arrow refl ∷ Type' ∷ FunBody' ∷ st) ts → Has Decl' (sign_at symbols.Fun p ∷ ts) (Forest st)
 function p ts st f =
-    spelled (λ x. sign_at m.Fun p ∷ x) (λ c. DeclForm.Fun (record {
+    spelled (λ x. sign_at symbols.Fun p ∷ x) (λ c. DeclForm.Fun (record {
       at = p;
       name_at = c.0.0.0.0.at;
       name = c.0.0.0.0.name;
@@ -60,7 +60,7 @@ function p ts st f =
       end = c.1.1.end;
     })) (λ c k. refl) (joined (joined (joined (joined f))))
 
-pub builds_decl : (w : W) → Built Decl' w
-builds_decl (Sign m.Type) p ts st = λ f. alias p ts st f
-builds_decl (Sign m.Fun) p ts st = λ f. function p ts st f
+pub builds_decl : (w : Lexeme) → Built Decl' w
+builds_decl (Sign symbols.Type) p ts st = λ f. alias p ts st f
+builds_decl (Sign symbols.Fun) p ts st = λ f. function p ts st f
 builds_decl w p ts st = tt

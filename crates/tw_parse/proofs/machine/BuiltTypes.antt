@@ -1,8 +1,8 @@
 -- Each move of the machine is a step of the grammar: single tokens and types.
 use Rattle.std.proofs.Common.{◌≡◌, refl, ◌≤◌, List, ◌∷◌, ap, Bool, true, false, ◌⊎◌, inl, inr}
-use Rattle.tw_parse.specs.declared.word.Mark.{Mark}
-use Rattle.tw_parse.specs.declared.word.Mark.TheVariants as m
-use Rattle.tw_parse.specs.Words.{W, Name, Number, Sign, Tok, number_at, sign_at}
+use Rattle.tw_lex.specs.declared.symbol.Symbol.{Symbol}
+use Rattle.tw_lex.specs.declared.symbol.Symbol.TheVariants as symbols
+use Rattle.tw_lex.specs.Tokens.{Lexeme, Name, Number, Sign, Lexed, number_at, sign_at}
 use Rattle.tw_parse.specs.Grammar.{TypeForm}
 use Rattle.tw_parse.specs.Whole.{closes}
 use Rattle.tw_parse.specs.Steps.{is_mark, is_step, is_small}
@@ -10,7 +10,7 @@ use Rattle.tw_parse.specs.Machine.{N, TheMark, Name', Step', Small', LetArrow', 
 use Rattle.tw_parse.proofs.tokens.Words.{tok, is_mark-true, is_step-true, is_small-true}
 use Rattle.tw_parse.proofs.machine.Awaited.{spelled, joined, StepForm, LetArrowForm, Has, Forest, Builds, Built, builds_as}
 
-pub builds_mark : (mark : Mark) (alone : stands_alone mark ≡ true) (w : W) → Built (TheMark mark alone) w
+pub builds_mark : (mark : Symbol) (alone : stands_alone mark ≡ true) (w : Lexeme) → Built (TheMark mark alone) w
 builds_mark mark alone w p ts st = go (is_mark mark w) (closes (Sign mark)) (λ e. is_mark-true mark w e)
   where
     go : (is closing : Bool) → (is ≡ true → w ≡ Sign mark) → Builds false (Has (TheMark mark alone) (tok w p ∷ ts) (Forest st)) ts (when is (taken_mark closing st))
@@ -18,11 +18,11 @@ builds_mark mark alone w p ts st = go (is_mark mark w) (closes (Sign mark)) (λ 
     go true false e = λ f. record { form = p; rest = ts; parts = ap (λ x. tok x p ∷ ts) (e refl); more = f }
     go false closing e = tt
 
-pub builds_name : (w : W) → Built Name' w
+pub builds_name : (w : Lexeme) → Built Name' w
 builds_name (Name text) p ts st = λ f. record { form = record { name = text; at = p }; rest = ts; parts = refl; more = f }
 builds_name w p ts st = tt
 
-pub builds_step : (w : W) → Built Step' w
+pub builds_step : (w : Lexeme) → Built Step' w
 builds_step (Number value) p ts st = go (is_step value) (is_step-true value)
   where
     go : (is : Bool) → (is ≡ true → (value ≡ 1) ⊎ (value ≡ 2)) → Builds false (Has Step' (number_at value p ∷ ts) (Forest st)) ts (when is (Next.Take st))
@@ -34,7 +34,7 @@ builds_step (Number value) p ts st = go (is_step value) (is_step-true value)
     go false e = tt
 builds_step w p ts st = tt
 
-pub builds_small : (w : W) → Built Small' w
+pub builds_small : (w : Lexeme) → Built Small' w
 builds_small (Number value) p ts st = go (is_small value) (is_small-true value)
   where
     go : (is : Bool) → (is ≡ true → value ≤ 255) → Builds false (Has Small' (number_at value p ∷ ts) (Forest st)) ts (when is (Next.Take st))
@@ -42,28 +42,28 @@ builds_small (Number value) p ts st = go (is_small value) (is_small-true value)
     go false e = tt
 builds_small w p ts st = tt
 
-pub builds_let_arrow : (w : W) → Built LetArrow' w
-builds_let_arrow (Sign m.Gets) p ts st = λ f. record { form = LetArrowForm.Gets p; rest = ts; parts = refl; more = f }
-builds_let_arrow (Sign m.Arrow) p ts st = λ f. record { form = LetArrowForm.Arrow p; rest = ts; parts = refl; more = f }
+pub builds_let_arrow : (w : Lexeme) → Built LetArrow' w
+builds_let_arrow (Sign symbols.Assign) p ts st = λ f. record { form = LetArrowForm.Gets p; rest = ts; parts = refl; more = f }
+builds_let_arrow (Sign symbols.Arrow) p ts st = λ f. record { form = LetArrowForm.Arrow p; rest = ts; parts = refl; more = f }
 builds_let_arrow w p ts st = tt
 
-pub builds_angled : (w : W) → Built Angled' w
-builds_angled (Sign m.Less) p ts st = λ f. spelled (λ x. sign_at m.Less p ∷ x) (λ c. record { open_at = p; ty = c.0; close_at = c.1 }) (λ c k. refl) (joined f)
+pub builds_angled : (w : Lexeme) → Built Angled' w
+builds_angled (Sign symbols.Less) p ts st = λ f. spelled (λ x. sign_at symbols.Less p ∷ x) (λ c. record { open_at = p; ty = c.0; close_at = c.1 }) (λ c k. refl) (joined f)
 builds_angled w p ts st = tt
 
-pub builds_type : (w : W) → Built Type' w
-builds_type (Sign m.Uint) p ts st = λ f. record { form = TypeForm.Uint p; rest = ts; parts = refl; more = f }
-builds_type (Sign m.Bool) p ts st = λ f. record { form = TypeForm.Bool p; rest = ts; parts = refl; more = f }
+pub builds_type : (w : Lexeme) → Built Type' w
+builds_type (Sign symbols.Uint) p ts st = λ f. record { form = TypeForm.Uint p; rest = ts; parts = refl; more = f }
+builds_type (Sign symbols.Bool) p ts st = λ f. record { form = TypeForm.Bool p; rest = ts; parts = refl; more = f }
 builds_type (Name text) p ts st = λ f. record { form = TypeForm.Named p text; rest = ts; parts = refl; more = f }
-builds_type (Sign m.Ptr) p ts st = λ f. spelled (λ x. sign_at m.Ptr p ∷ x) (λ c. TypeForm.Ptr p c.open_at c.ty c.close_at) (λ c k. refl) f
-builds_type (Sign m.Open) p ts st = λ f. f p
+builds_type (Sign symbols.Ptr) p ts st = λ f. spelled (λ x. sign_at symbols.Ptr p ∷ x) (λ c. TypeForm.Ptr p c.open_at c.ty c.close_at) (λ c k. refl) f
+builds_type (Sign symbols.OpenParen) p ts st = λ f. f p
 builds_type w p ts st = tt
 
-paired : (ts : List Tok) (st : List N) → Forest (Type' ∷ TheMark m.Comma refl ∷ Type' ∷ TheMark m.Close refl ∷ st) ts → Has Paren' ts (Forest st)
-paired ts st f q = spelled (λ x. sign_at m.Open q ∷ x) (λ c. TypeForm.Pair q c.0.0.0 c.0.0.1 c.0.1 c.1) (λ c k. refl) (joined (joined (joined f)))
+paired : (ts : List Lexed) (st : List N) → Forest (Type' ∷ TheMark symbols.Comma refl ∷ Type' ∷ TheMark symbols.CloseParen refl ∷ st) ts → Has Paren' ts (Forest st)
+paired ts st f q = spelled (λ x. sign_at symbols.OpenParen q ∷ x) (λ c. TypeForm.Pair q c.0.0.0 c.0.0.1 c.0.1 c.1) (λ c k. refl) (joined (joined (joined f)))
 
-pub builds_paren : (w : W) → Built Paren' w
-builds_paren (Sign m.Close) p ts st = λ f q. record { form = TypeForm.Unit q p; rest = ts; parts = refl; more = f }
+pub builds_paren : (w : Lexeme) → Built Paren' w
+builds_paren (Sign symbols.CloseParen) p ts st = λ f q. record { form = TypeForm.Unit q p; rest = ts; parts = refl; more = f }
 builds_paren w p ts st =
-    let behind = TheMark m.Comma refl ∷ Type' ∷ TheMark m.Close refl ∷ st in
+    let behind = TheMark symbols.Comma refl ∷ Type' ∷ TheMark symbols.CloseParen refl ∷ st in
     builds_as false ts (next_type w behind) (paired (tok w p ∷ ts) st) (builds_type w p ts behind)

@@ -1,8 +1,8 @@
 -- What is awaited can be completed.
 use Rattle.std.proofs.Common.{◌≡◌, refl, List, [], ◌∷◌, ◌∙◌, Bool, true, false, Some, arith}
-use Rattle.tw_parse.specs.declared.word.Mark.{Mark}
-use Rattle.tw_parse.specs.declared.word.Mark.TheVariants as m
-use Rattle.tw_parse.specs.Words.{Sign, Tok, name_at, number_at, sign_at}
+use Rattle.tw_lex.specs.declared.symbol.Symbol.{Symbol}
+use Rattle.tw_lex.specs.declared.symbol.Symbol.TheVariants as symbols
+use Rattle.tw_lex.specs.Tokens.{Sign, Lexed, name_at, number_at, sign_at}
 use Rattle.tw_parse.specs.Whole.{closes}
 use Rattle.tw_parse.specs.Steps.{is_mark}
 use Rattle.tw_parse.specs.Machine.{N, TheMark, Name', Step', Small', Angled', Type', Paren', Path', Steps', Atom', Expr', ExprParen', OpTail', Rhs', AfterName', Bound', BoundTail', CallArgs', Args', MoreArgs', Stmt', LetArrow', Stmts', ElseTail', Block', Body', FunBody', AfterFunName', FunParams', Params', MoreParams', Decl', stands_alone, when, taken_mark, settled, move, here}
@@ -10,58 +10,58 @@ use Rattle.tw_parse.proofs.tokens.Words.{is_mark-same}
 use Rattle.tw_parse.proofs.machine.Walks.{walk, moved}
 use Rattle.tw_parse.proofs.machine.TakenExprs.{Passes}
 
-abbrev mark : Mark → Tok
+abbrev mark : Symbol → Lexed
 mark x = sign_at x here
 
-abbrev name : Tok
+abbrev name : Lexed
 name = name_at [] here
 
-abbrev number : Tok
+abbrev number : Lexed
 number = number_at 1 here
 
 -- some tokens that are this, in front of what follows
-abbrev pub filler : N → List Tok → List Tok
+abbrev pub filler : N → List Lexed → List Lexed
 filler (TheMark x alone) k = mark x ∷ k
 filler Name' k = name ∷ k
 filler Step' k = number ∷ k
 filler Small' k = number ∷ k
-filler Angled' k = mark m.Less ∷ mark m.Uint ∷ mark m.More ∷ k
-filler Type' k = mark m.Uint ∷ k
-filler Paren' k = mark m.Close ∷ k
+filler Angled' k = mark symbols.Less ∷ mark symbols.Uint ∷ mark symbols.Greater ∷ k
+filler Type' k = mark symbols.Uint ∷ k
+filler Paren' k = mark symbols.CloseParen ∷ k
 filler Path' k = name ∷ k
 filler Steps' k = k
 filler Atom' k = number ∷ k
-filler Expr' k = mark m.Not ∷ number ∷ k
-filler ExprParen' k = number ∷ mark m.Comma ∷ number ∷ mark m.Close ∷ k
-filler OpTail' k = mark m.Plus ∷ number ∷ k
-filler Rhs' k = mark m.Not ∷ number ∷ k
-filler AfterName' k = mark m.Open ∷ mark m.Close ∷ k
+filler Expr' k = mark symbols.Not ∷ number ∷ k
+filler ExprParen' k = number ∷ mark symbols.Comma ∷ number ∷ mark symbols.CloseParen ∷ k
+filler OpTail' k = mark symbols.Plus ∷ number ∷ k
+filler Rhs' k = mark symbols.Not ∷ number ∷ k
+filler AfterName' k = mark symbols.OpenParen ∷ mark symbols.CloseParen ∷ k
 filler Bound' k = number ∷ k
-filler BoundTail' k = mark m.Minus ∷ number ∷ k
-filler CallArgs' k = mark m.Open ∷ mark m.Close ∷ k
-filler Args' k = mark m.Close ∷ k
-filler MoreArgs' k = mark m.Close ∷ k
-filler Stmt' k = mark m.Skip ∷ mark m.Semicolon ∷ k
-filler LetArrow' k = mark m.Gets ∷ k
-filler Stmts' k = mark m.CloseBrace ∷ k
-filler ElseTail' k = mark m.Else ∷ mark m.OpenBrace ∷ mark m.CloseBrace ∷ k
-filler Block' k = mark m.OpenBrace ∷ mark m.CloseBrace ∷ k
-filler Body' k = mark m.Return ∷ name ∷ mark m.Semicolon ∷ mark m.CloseBrace ∷ k
-filler FunBody' k = mark m.OpenBrace ∷ mark m.Return ∷ name ∷ mark m.Semicolon ∷ mark m.CloseBrace ∷ k
-filler AfterFunName' k = mark m.Open ∷ mark m.Close ∷ k
-filler FunParams' k = mark m.Open ∷ mark m.Close ∷ k
-filler Params' k = mark m.Close ∷ k
-filler MoreParams' k = mark m.Close ∷ k
-filler Decl' k = mark m.Type ∷ name ∷ mark m.Is ∷ mark m.Uint ∷ mark m.Semicolon ∷ k
+filler BoundTail' k = mark symbols.Minus ∷ number ∷ k
+filler CallArgs' k = mark symbols.OpenParen ∷ mark symbols.CloseParen ∷ k
+filler Args' k = mark symbols.CloseParen ∷ k
+filler MoreArgs' k = mark symbols.CloseParen ∷ k
+filler Stmt' k = mark symbols.Skip ∷ mark symbols.Semicolon ∷ k
+filler LetArrow' k = mark symbols.Assign ∷ k
+filler Stmts' k = mark symbols.CloseBrace ∷ k
+filler ElseTail' k = mark symbols.Else ∷ mark symbols.OpenBrace ∷ mark symbols.CloseBrace ∷ k
+filler Block' k = mark symbols.OpenBrace ∷ mark symbols.CloseBrace ∷ k
+filler Body' k = mark symbols.Return ∷ name ∷ mark symbols.Semicolon ∷ mark symbols.CloseBrace ∷ k
+filler FunBody' k = mark symbols.OpenBrace ∷ mark symbols.Return ∷ name ∷ mark symbols.Semicolon ∷ mark symbols.CloseBrace ∷ k
+filler AfterFunName' k = mark symbols.OpenParen ∷ mark symbols.CloseParen ∷ k
+filler FunParams' k = mark symbols.OpenParen ∷ mark symbols.CloseParen ∷ k
+filler Params' k = mark symbols.CloseParen ∷ k
+filler MoreParams' k = mark symbols.CloseParen ∷ k
+filler Decl' k = mark symbols.Type ∷ name ∷ mark symbols.Define ∷ mark symbols.Uint ∷ mark symbols.Semicolon ∷ k
 
 -- some tokens that complete a stack; they end with a declaration, so that something always follows
-abbrev pub completion : List N → List Tok
+abbrev pub completion : List N → List Lexed
 completion [] = filler Decl' []
 completion (n ∷ st) = filler n (completion st)
 
 -- no completion goes on with a path
-mark_ends : (x : Mark) → stands_alone x ≡ true → (k : List Tok) → Passes Steps' (mark x ∷ k)
-mark_ends m.Dot alone k = absurd (grind arith)
+mark_ends : (x : Symbol) → stands_alone x ≡ true → (k : List Lexed) → Passes Steps' (mark x ∷ k)
+mark_ends symbols.Dot alone k = absurd (grind arith)
 mark_ends x alone k = λ st. refl
 
 completion_ends : (st : List N) → Passes Steps' (completion st)
@@ -70,7 +70,7 @@ completion_ends (Steps' ∷ st) = completion_ends st
 completion_ends (TheMark x alone ∷ st) = mark_ends x alone (completion st)
 completion_ends (n ∷ st) = λ s. refl
 
-fills_mark : (x : Mark) (alone : stands_alone x ≡ true) (k : List Tok) (st : List N) → walk (mark x ∷ k) (TheMark x alone ∷ st) ≡ walk k st
+fills_mark : (x : Symbol) (alone : stands_alone x ≡ true) (k : List Lexed) (st : List N) → walk (mark x ∷ k) (TheMark x alone ∷ st) ≡ walk k st
 fills_mark x alone k st = go (is_mark x (Sign x)) (closes (Sign x)) (is_mark-same x)
   where
     go : (is closing : Bool) → is ≡ true → moved (settled (when is (taken_mark closing st)) (move (Sign x) st)) (walk k) ≡ walk k st

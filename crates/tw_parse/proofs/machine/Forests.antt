@@ -1,6 +1,6 @@
 -- Tokens that the machine takes meet what is awaited, so whole ones that it takes are a program.
 use Rattle.std.proofs.Common.{◌≡◌, refl, List, [], ◌∷◌, ap, ◌∙◌, ◌⊎◌, inl, inr, Bool, true, false, Some, arith}
-use Rattle.tw_parse.specs.Words.{W, Tok}
+use Rattle.tw_lex.specs.Tokens.{Lexeme, Lexed}
 use Rattle.tw_parse.specs.Grammar.{AtomForm, ExprForm, RhsForm, BoundForm, StepsForm}
 use Rattle.tw_parse.specs.Statements.{StmtForm, ProgramForm, decl_text}
 use Rattle.tw_parse.specs.Whole.{IsProgram}
@@ -13,7 +13,7 @@ use Rattle.tw_parse.proofs.machine.BuiltStmts.{builds_stmt, builds_stmts, builds
 use Rattle.tw_parse.proofs.machine.BuiltDecls.{builds_after_fun_name, builds_fun_params, builds_params, builds_more_params, builds_decl}
 
 -- at each word the move of each thing that is awaited builds it
-pub builds : (n : N) (w : W) → Built n w
+pub builds : (n : N) (w : Lexeme) → Built n w
 builds (TheMark mark alone) w = builds_mark mark alone w
 builds Name' w = builds_name w
 builds Step' w = builds_step w
@@ -48,7 +48,7 @@ builds MoreParams' w = builds_more_params w
 builds Decl' w = builds_decl w
 
 -- what may be none has a form of no tokens
-passed : (n : N) (ts : List Tok) (st : List N) → Holds (is_nullable n) → Forest st ts → Has n ts (Forest st)
+passed : (n : N) (ts : List Lexed) (st : List N) → Holds (is_nullable n) → Forest st ts → Has n ts (Forest st)
 passed Steps' ts st h f = record { form = StepsForm.NoSteps; rest = ts; parts = refl; more = f }
 passed OpTail' ts st h f = λ atom. record { form = ExprForm.One atom; rest = ts; parts = refl; more = f }
 passed AfterName' ts st h f = λ p name.
@@ -58,14 +58,14 @@ passed ElseTail' ts st h f = λ p cond body. record { form = StmtForm.If p cond 
 passed n ts st h f = absurd h
 
 -- a declaration stands before the end or a program
-begun : (ts : List Tok) → Forest (Decl' ∷ []) ts → IsProgram ts
+begun : (ts : List Lexed) → Forest (Decl' ∷ []) ts → IsProgram ts
 begun ts f = go f.more
   where
     go : (f.rest ≡ []) ⊎ IsProgram f.rest → IsProgram ts
     go (inl end) = (ProgramForm.Last f.form, f.parts ∙ ap (decl_text f.form) end)
     go (inr more) = (ProgramForm.Decls f.form more.0, f.parts ∙ ap (decl_text f.form) more.1)
 
-settles : (n : N) (us ts : List Tok) (st : List N) (now behind : Next) → Builds (is_nullable n) (Has n us (Forest st)) ts now → Builds false (Forest st us) ts behind
+settles : (n : N) (us ts : List Lexed) (st : List N) (now behind : Next) → Builds (is_nullable n) (Has n us (Forest st)) ts now → Builds false (Forest st us) ts behind
     → Builds false (Has n us (Forest st)) ts (settled now behind)
 settles n us ts st Next.Pop behind built under = builds_as false ts behind (passed n us st built) under
 settles n us ts st (Next.Take more) behind built under = built
@@ -73,9 +73,9 @@ settles n us ts st (Next.Open more) behind built under = built
 settles n us ts st (Next.Shut more) behind built under = built
 settles n us ts st Next.Stop behind built under = tt
 
-moves : (t : Tok) (ts : List Tok) (st : List N) → Builds false (Forest st (t ∷ ts)) ts (move t.word st)
-moves t ts [] = builds_as false ts (next Decl' t.word []) (λ f. inr (begun (t ∷ ts) f)) (builds_decl t.word t.at ts [])
-moves t ts (n ∷ st) = settles n (t ∷ ts) ts st (next n t.word st) (move t.word st) (builds n t.word t.at ts st) (moves t ts st)
+moves : (t : Lexed) (ts : List Lexed) (st : List N) → Builds false (Forest st (t ∷ ts)) ts (move t.lexeme st)
+moves t ts [] = builds_as false ts (next Decl' t.lexeme []) (λ f. inr (begun (t ∷ ts) f)) (builds_decl t.lexeme t.at ts [])
+moves t ts (n ∷ st) = settles n (t ∷ ts) ts st (next n t.lexeme st) (move t.lexeme st) (builds n t.lexeme t.at ts st) (moves t ts st)
 
 -- at the end what is awaited may be none
 ended : (st : List N) → at_end st ≡ Accept → Forest st []
@@ -87,7 +87,7 @@ ended (n ∷ st) e = go (is_nullable n) (passed n [] st) (λ h. ended st h) e
     go true pass under e = pass tt (under e)
     go false pass under e = absurd (grind arith)
 
-grown : {Goal : Type 0} (ts : List Tok) (rest : List N) (next : Next) → Builds false Goal ts next → ((st : List N) → walk ts st ≡ Some rest → Forest st ts)
+grown : {Goal : Type 0} (ts : List Lexed) (rest : List N) (next : Next) → Builds false Goal ts next → ((st : List N) → walk ts st ≡ Some rest → Forest st ts)
     → moved next (walk ts) ≡ Some rest → Goal
 grown ts rest (Next.Take st) built behind e = built (behind st e)
 grown ts rest (Next.Open st) built behind e = built (behind st e)
@@ -96,10 +96,10 @@ grown ts rest Next.Pop built behind e = absurd built
 grown ts rest Next.Stop built behind e = absurd (grind arith)
 
 -- tokens that are taken to where no further one is needed meet what is awaited
-pub forest : (ts : List Tok) (st rest : List N) → walk ts st ≡ Some rest → at_end rest ≡ Accept → Forest st ts
+pub forest : (ts : List Lexed) (st rest : List N) → walk ts st ≡ Some rest → at_end rest ≡ Accept → Forest st ts
 forest [] st rest e a = let same : st ≡ rest = cc in ended st (ap at_end same ∙ a)
-forest (t ∷ ts) st rest e a = grown ts rest (move t.word st) (moves t ts st) (λ s h. forest ts s rest h a) e
+forest (t ∷ ts) st rest e a = grown ts rest (move t.lexeme st) (moves t ts st) (λ s h. forest ts s rest h a) e
 
 -- whole tokens that are taken are a program
-pub program : (ts : List Tok) (rest : List N) → walk ts (Decl' ∷ []) ≡ Some rest → at_end rest ≡ Accept → IsProgram ts
+pub program : (ts : List Lexed) (rest : List N) → walk ts (Decl' ∷ []) ≡ Some rest → at_end rest ≡ Accept → IsProgram ts
 program ts rest e a = begun ts (forest ts (Decl' ∷ []) rest e a)

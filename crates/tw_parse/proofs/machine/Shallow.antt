@@ -1,24 +1,24 @@
 -- No more brackets are open in some tokens than a limit.
 use Rattle.std.proofs.Common.{◌≡◌, ℕ, ◌+◌, ◌-◌, ◌≤◌, if◌then◌else◌, List, [], ◌∷◌, ◌++◌, subst, Bool, arith}
-use Rattle.tw_parse.specs.Words.{W, Tok}
+use Rattle.tw_lex.specs.Tokens.{Lexeme, Lexed}
 use Rattle.tw_parse.specs.Whole.{announces, opens, closes, open_brackets}
 
 -- at each place of the tokens, where so many are open before them
-abbrev pub Shallow : ℕ → ℕ → Bool → List Tok → Type 0
-Shallow limit n announced toks = (front back : List Tok) → toks ≡ front ++ back → open_brackets n announced front ≤ limit
+abbrev pub Shallow : ℕ → ℕ → Bool → List Lexed → Type 0
+Shallow limit n announced toks = (front back : List Lexed) → toks ≡ front ++ back → open_brackets n announced front ≤ limit
 
 -- how many are open behind a word
-abbrev pub count_of : ℕ → Bool → W → ℕ
+abbrev pub count_of : ℕ → Bool → Lexeme → ℕ
 count_of n announced w = if opens announced w then n + 1 else (if closes w then n - 1 else n)
 
 pub shallow_none : (limit n : ℕ) (announced : Bool) → n ≤ limit → Shallow limit n announced []
 shallow_none limit n announced h [] back e = h
 shallow_none limit n announced h (t ∷ front) back e = absurd (grind arith)
 
-pub shallow_then : (limit n : ℕ) (announced : Bool) (t : Tok) (ts : List Tok) → n ≤ limit → Shallow limit (count_of n announced t.word) (announces t.word) ts
+pub shallow_then : (limit n : ℕ) (announced : Bool) (t : Lexed) (ts : List Lexed) → n ≤ limit → Shallow limit (count_of n announced t.lexeme) (announces t.lexeme) ts
     → Shallow limit n announced (t ∷ ts)
 shallow_then limit n announced t ts h behind [] back e = h
 shallow_then limit n announced t ts h behind (u ∷ front) back e =
     let same : t ≡ u = cc in
     let rest : ts ≡ front ++ back = cc in
-    subst (λ x. open_brackets (count_of n announced x.word) (announces x.word) front ≤ limit) same (behind front back rest)
+    subst (λ x. open_brackets (count_of n announced x.lexeme) (announces x.lexeme) front ≤ limit) same (behind front back rest)

@@ -1,18 +1,18 @@
 -- The machine's outcome is what the grammar says of the tokens, and each text has one.
 use Rattle.std.proofs.Common.{◌≡◌, refl, ℕ, suc, ◌+◌, ◌≤◌, List, [], ◌∷◌, ◌++◌, length, append_assoc, append-nil, ap, ◌∙◌, sym, subst, false, ◌↔◌, length-append, Some, arith}
-use Rattle.tw_parse.specs.Words.{Tok, sign_at}
+use Rattle.tw_lex.specs.Tokens.{Lexed, sign_at}
 use Rattle.tw_parse.specs.Whole.{IsProgram, IsOpen, IsEnd, IsShallow, depth, IsSyntaxAt, IsTooDeepAt}
 use Rattle.tw_parse.specs.Machine.{N, Outcome, Accept, Fail, Deep, at_end, verdict, here, alias, nested, verdict_no_type, verdict_65}
-use Rattle.tw_parse.specs.declared.word.Mark.TheVariants as m
+use Rattle.tw_lex.specs.declared.symbol.Symbol.TheVariants as symbols
 use Rattle.tw_parse.proofs.machine.Walks.{walk}
 use Rattle.tw_parse.proofs.machine.Forests.{program}
 use Rattle.tw_parse.proofs.machine.Halts.{IsStuck, Accepted, Failed, Deepened, Halted, halted}
 use Rattle.tw_parse.proofs.machine.Fronts.{start, walk-append, walk-program, open_of_walk, open-front, open-program, Parted, parted}
 
-accepted : (toks : List Tok) → Accepted 64 false toks start → IsProgram toks × IsShallow toks
+accepted : (toks : List Lexed) → Accepted 64 false toks start → IsProgram toks × IsShallow toks
 accepted toks h = (program toks h.rest h.taken h.end, h.shallow)
 
-ends : (front back : List Tok) (rest : List N) → walk front start ≡ Some rest → IsStuck back rest → IsEnd front back
+ends : (front back : List Lexed) (rest : List N) → walk front start ≡ Some rest → IsStuck back rest → IsEnd front back
 ends front [] rest taken stuck = λ h.
     let same : rest ≡ [] = cc (walk-program front h, taken) in
     let none : at_end [] ≡ Fail 0 = subst (λ x. at_end x ≡ Fail 0) same stuck in
@@ -23,7 +23,7 @@ ends front (t ∷ ts) rest taken stuck = λ h.
     ap (λ x. walk x start) (append_assoc front (t ∷ []) h.0) ∙ walk-append front (t ∷ h.0) start rest taken in
     cc (whole, behind, stuck h.0)
 
-failed : (toks : List Tok) (left : ℕ) → Failed 64 false toks start left → IsSyntaxAt toks left
+failed : (toks : List Lexed) (left : ℕ) → Failed 64 false toks start left → IsSyntaxAt toks left
 failed toks left h = record {
   front = h.front;
   back = h.back;
@@ -34,7 +34,7 @@ failed toks left h = record {
   at = ends h.front h.back h.rest h.taken h.stuck;
 }
 
-deepened : (toks : List Tok) (left : ℕ) → Deepened 64 false toks start left → IsTooDeepAt toks left
+deepened : (toks : List Lexed) (left : ℕ) → Deepened 64 false toks start left → IsTooDeepAt toks left
 deepened toks left h = record {
   front = h.front;
   next = h.bad;
@@ -47,12 +47,12 @@ deepened toks left h = record {
 }
 
 -- what the grammar says where the machine comes to this
-abbrev pub Means : List Tok → Outcome → Type 0
+abbrev pub Means : List Lexed → Outcome → Type 0
 Means toks Accept = IsProgram toks × IsShallow toks
 Means toks (Fail left) = IsSyntaxAt toks left
 Means toks (Deep left) = IsTooDeepAt toks left
 
-pub verdict-means : (toks : List Tok) → Means toks (verdict toks)
+pub verdict-means : (toks : List Lexed) → Means toks (verdict toks)
 verdict-means toks = go (verdict toks) (halted 64 false toks 64 start refl (omega arith))
   where
     go : (outcome : Outcome) → Halted 64 false toks start outcome → Means toks outcome
@@ -61,37 +61,37 @@ verdict-means toks = go (verdict toks) (halted 64 false toks 64 start refl (omeg
     go (Deep left) h = deepened toks left h
 
 -- the next token belongs to a longer front
-step-front : (front : List Tok) (t : Tok) (more : List Tok) → IsOpen (front ++ t ∷ more) → IsOpen (front ++ t ∷ [])
+step-front : (front : List Lexed) (t : Lexed) (more : List Lexed) → IsOpen (front ++ t ∷ more) → IsOpen (front ++ t ∷ [])
 step-front front t more h = open-front (front ++ t ∷ []) more (subst IsOpen (sym (append_assoc front (t ∷ []) more)) h)
 
-pub program-not_syntax : (toks : List Tok) (left : ℕ) → IsProgram toks → IsSyntaxAt toks left → ⊥
+pub program-not_syntax : (toks : List Lexed) (left : ℕ) → IsProgram toks → IsSyntaxAt toks left → ⊥
 program-not_syntax toks left h s = go s.back s.parts s.at
   where
-    go : (back : List Tok) → toks ≡ s.front ++ back → IsEnd s.front back → ⊥
+    go : (back : List Lexed) → toks ≡ s.front ++ back → IsEnd s.front back → ⊥
     go [] parts at = at (subst IsProgram (parts ∙ append-nil s.front) h)
     go (t ∷ ts) parts at = at (open-program (s.front ++ t ∷ []) ts toks (parts ∙ sym (append_assoc s.front (t ∷ []) ts)) h)
 
-pub shallow-not_deep : (toks : List Tok) (left : ℕ) → IsShallow toks → IsTooDeepAt toks left → ⊥
+pub shallow-not_deep : (toks : List Lexed) (left : ℕ) → IsShallow toks → IsTooDeepAt toks left → ⊥
 shallow-not_deep toks left h d =
     let within : depth (d.front ++ d.next ∷ []) ≤ 64 = h (d.front ++ d.next ∷ []) d.back (d.parts ∙ sym (append_assoc d.front (d.next ∷ []) d.back)) in
     omega (arith, d.deeper, within)
 
 -- no front that is open reaches beyond where the tokens go wrong
-ends_within : (toks : List Tok) (left : ℕ) (s : IsSyntaxAt toks left) (front back : List Tok) → toks ≡ front ++ back → IsOpen front
-    → (more : List Tok) × (s.front ≡ front ++ more) × (back ≡ more ++ s.back)
+ends_within : (toks : List Lexed) (left : ℕ) (s : IsSyntaxAt toks left) (front back : List Lexed) → toks ≡ front ++ back → IsOpen front
+    → (more : List Lexed) × (s.front ≡ front ++ more) × (back ≡ more ++ s.back)
 ends_within toks left s front back parts open_front = go (parted s.front s.back front back (sym s.parts ∙ parts))
   where
-    within : (more : List Tok) → front ≡ s.front ++ more → s.back ≡ more ++ back → (more : List Tok) × (s.front ≡ front ++ more) × (back ≡ more ++ s.back)
+    within : (more : List Lexed) → front ≡ s.front ++ more → s.back ≡ more ++ back → (more : List Lexed) × (s.front ≡ front ++ more) × (back ≡ more ++ s.back)
     within [] first second = ([], sym (append-nil front ∙ (first ∙ append-nil s.front)), sym second)
     within (t ∷ more) first second =
         let at : IsOpen (s.front ++ t ∷ []) → ⊥ = subst (IsEnd s.front) second s.at in
         absurd (at (step-front s.front t more (subst IsOpen first open_front)))
 
-    go : Parted s.front s.back front back → (more : List Tok) × (s.front ≡ front ++ more) × (back ≡ more ++ s.back)
+    go : Parted s.front s.back front back → (more : List Lexed) × (s.front ≡ front ++ more) × (back ≡ more ++ s.back)
     go (Parted.Within more first second) = within more first second
     go (Parted.Beyond t more first second) = (t ∷ more, first, second)
 
-pub syntax-same : (toks : List Tok) (left other : ℕ) → IsSyntaxAt toks left → IsSyntaxAt toks other → left ≡ other
+pub syntax-same : (toks : List Lexed) (left other : ℕ) → IsSyntaxAt toks left → IsSyntaxAt toks other → left ≡ other
 syntax-same toks left other s u =
     let one = ends_within toks left s u.front u.back u.parts u.before in
     let two = ends_within toks other u s.front s.back s.parts s.before in
@@ -99,13 +99,13 @@ syntax-same toks left other s u =
     let second : length s.back ≡ length two.0 + length u.back = ap length two.2 ∙ length-append two.0 u.back in
     omega (arith, first, second, s.count, u.count)
 
-pub syntax-not_deep : (toks : List Tok) (left other : ℕ) → IsSyntaxAt toks left → IsTooDeepAt toks other → ⊥
+pub syntax-not_deep : (toks : List Lexed) (left other : ℕ) → IsSyntaxAt toks left → IsTooDeepAt toks other → ⊥
 syntax-not_deep toks left other s d =
     let within = ends_within toks left s (d.front ++ d.next ∷ []) d.back (d.parts ∙ sym (append_assoc d.front (d.next ∷ []) d.back)) d.open_with in
     let shallow : depth (d.front ++ d.next ∷ []) ≤ 64 = s.shallow (d.front ++ d.next ∷ []) within.0 within.1 in
     omega (arith, d.deeper, shallow)
 
-deep-least : (toks : List Tok) (left other : ℕ) → IsTooDeepAt toks left → IsTooDeepAt toks other → left ≤ other
+deep-least : (toks : List Lexed) (left other : ℕ) → IsTooDeepAt toks left → IsTooDeepAt toks other → left ≤ other
 deep-least toks left other d u = go (parted (d.front ++ d.next ∷ []) d.back u.front (u.next ∷ u.back) (append_assoc d.front (d.next ∷ []) d.back ∙ (sym d.parts ∙ u.parts)))
   where
     go : Parted (d.front ++ d.next ∷ []) d.back u.front (u.next ∷ u.back) → left ≤ other
@@ -116,11 +116,11 @@ deep-least toks left other d u = go (parted (d.front ++ d.next ∷ []) d.back u.
         let longer : length (u.next ∷ u.back) ≡ suc (length more + length d.back) = ap length second ∙ ap suc (length-append more d.back) in
         omega (arith, longer, d.count, u.count)
 
-pub deep-same : (toks : List Tok) (left other : ℕ) → IsTooDeepAt toks left → IsTooDeepAt toks other → left ≡ other
+pub deep-same : (toks : List Lexed) (left other : ℕ) → IsTooDeepAt toks left → IsTooDeepAt toks other → left ≡ other
 deep-same toks left other d u = omega (arith, deep-least toks left other d u, deep-least toks other left u d)
 
 -- of what the grammar says of some tokens only one holds
-pub means-same : (toks : List Tok) (outcome other : Outcome) → Means toks outcome → Means toks other → outcome ≡ other
+pub means-same : (toks : List Lexed) (outcome other : Outcome) → Means toks outcome → Means toks other → outcome ≡ other
 means-same toks Accept Accept h k = refl
 means-same toks Accept (Fail n) h k = absurd (program-not_syntax toks n h.0 k)
 means-same toks Accept (Deep n) h k = absurd (shallow-not_deep toks n h.1 k)
@@ -131,16 +131,16 @@ means-same toks (Deep n) Accept h k = absurd (shallow-not_deep toks n k.1 h)
 means-same toks (Deep n) (Fail m) h k = absurd (syntax-not_deep toks m n k h)
 means-same toks (Deep n) (Deep m) h k = ap Deep (deep-same toks n m h k)
 
-pub verdict-is : (toks : List Tok) (outcome : Outcome) → Means toks outcome → verdict toks ≡ outcome
+pub verdict-is : (toks : List Lexed) (outcome : Outcome) → Means toks outcome → verdict toks ≡ outcome
 verdict-is toks outcome h = means-same toks (verdict toks) outcome (verdict-means toks) h
 
-pub verdict-accept : (toks : List Tok) → (verdict toks ≡ Accept) ↔ (IsProgram toks × IsShallow toks)
+pub verdict-accept : (toks : List Lexed) → (verdict toks ≡ Accept) ↔ (IsProgram toks × IsShallow toks)
 verdict-accept toks = (λ e. subst (Means toks) e (verdict-means toks), λ h. verdict-is toks Accept h)
 
-pub verdict-fail : (toks : List Tok) (left : ℕ) → (verdict toks ≡ Fail left) ↔ IsSyntaxAt toks left
+pub verdict-fail : (toks : List Lexed) (left : ℕ) → (verdict toks ≡ Fail left) ↔ IsSyntaxAt toks left
 verdict-fail toks left = (λ e. subst (Means toks) e (verdict-means toks), λ h. verdict-is toks (Fail left) h)
 
-pub verdict-deep : (toks : List Tok) (left : ℕ) → (verdict toks ≡ Deep left) ↔ IsTooDeepAt toks left
+pub verdict-deep : (toks : List Lexed) (left : ℕ) → (verdict toks ≡ Deep left) ↔ IsTooDeepAt toks left
 verdict-deep toks left = (λ e. subst (Means toks) e (verdict-means toks), λ h. verdict-is toks (Deep left) h)
 
 -- so the definitions hold of these tokens: of none, of an alias without a type, and of one with 65 open brackets
@@ -148,7 +148,7 @@ verdict-deep toks left = (λ e. subst (Means toks) e (verdict-means toks), λ h.
 pub empty-syntax : IsSyntaxAt [] 0
 empty-syntax = (verdict-fail [] 0).0 refl
 
-pub no_type-syntax : IsSyntaxAt (alias (sign_at m.Semicolon here ∷ [])) 1
+pub no_type-syntax : IsSyntaxAt (alias (sign_at symbols.Semicolon here ∷ [])) 1
 no_type-syntax = (verdict-fail _ 1).0 verdict_no_type
 
 pub nested_65-too_deep : IsTooDeepAt (alias (nested 65)) 2

@@ -1,6 +1,6 @@
 -- The machine without a limit on its brackets, and where it stands behind some tokens.
 use Rattle.std.proofs.Common.{List, [], ◌∷◌, Option, Some, None}
-use Rattle.tw_parse.specs.Words.{Tok}
+use Rattle.tw_lex.specs.Tokens.{Lexed}
 use Rattle.tw_parse.specs.Machine.{N, Next, move}
 
 -- what is awaited behind a move
@@ -12,6 +12,6 @@ moved Next.Pop go = None
 moved Next.Stop go = None
 
 -- what is awaited behind these tokens
-abbrev pub walk : List Tok → List N → Option (List N)
+abbrev pub walk : List Lexed → List N → Option (List N)
 walk [] st = Some st
-walk (t ∷ ts) st = moved (move t.word st) (walk ts)
+walk (t ∷ ts) st = moved (move t.lexeme st) (walk ts)

@@ -2,7 +2,7 @@
 use Rattle.std.proofs.Common.{◌≡◌, refl, subst, ℕ, zero, suc, ◌<◌, List, [], ◌∷◌, length, Bool, true, false, if◌then◌else◌, Result, Ok, Err}
 use Rattle.tw_text.specs.declared.place.Pos.{Pos}
 use Rattle.tw_parse.specs.declared.stop.Halt.{Halt}
-use Rattle.tw_parse.specs.Words.{W, Tok}
+use Rattle.tw_lex.specs.Tokens.{Lexeme, Lexed}
 use Rattle.tw_parse.specs.Steps.{Reader, ◌>>=◌, many_at, place_at}
 
 -- what is given where nothing ends early
@@ -31,42 +31,42 @@ says_either true h i = h
 says_either false h i = i
 
 -- a form of the grammar with what was read
-pub record Got {C X : Type 0} (text : C → List Tok → List Tok) (tree : C → X) (ts : List Tok) (x : X × List Tok) : Type 0 where
+pub record Got {C X : Type 0} (text : C → List Lexed → List Lexed) (tree : C → X) (ts : List Lexed) (x : X × List Lexed) : Type 0 where
   pub form : C
   pub spelled : ts ≡ text form x.1
   pub value : x.0 ≡ tree form
 
 -- a reader of forms
-abbrev pub Spells : {C X : Type 0} → (C → List Tok → List Tok) → (C → X) → Reader X → Type 0
-Spells text tree read = (ts : List Tok) → Says (Got text tree ts) (read ts)
+abbrev pub Spells : {C X : Type 0} → (C → List Lexed → List Lexed) → (C → X) → Reader X → Type 0
+Spells text tree read = (ts : List Lexed) → Says (Got text tree ts) (read ts)
 
 -- what is read takes a token at least
-pub record Shorter {X : Type 0} (ts : List Tok) (x : X × List Tok) : Type 0 where
+pub record Shorter {X : Type 0} (ts : List Lexed) (x : X × List Lexed) : Type 0 where
   pub less : length x.1 < length ts
 
-pub says_shorter : {C X : Type 0} {text : C → List Tok → List Tok} {tree : C → X} {ts : List Tok} {r : Result (X × List Tok) Halt}
-    → ((c : C) (k : List Tok) → length k < length (text c k)) → Says (Got text tree ts) r → Says (Shorter ts) r
+pub says_shorter : {C X : Type 0} {text : C → List Lexed → List Lexed} {tree : C → X} {ts : List Lexed} {r : Result (X × List Lexed) Halt}
+    → ((c : C) (k : List Lexed) → length k < length (text c k)) → Says (Got text tree ts) r → Says (Shorter ts) r
 says_shorter grows h = says_as h (λ x c. record { less = rw c.spelled (grows c.form x.1) })
 
 -- a list of what is read
-pub says_many : {X : Type 0} (goes : List Tok → Bool) (item : Reader X) (P : List Tok → X × List Tok → Type 0) (Q : List Tok → List X × List Tok → Type 0)
-    → ((ts : List Tok) → Q ts ([], ts)) → ((ts : List Tok) (x : X × List Tok) (xs : List X × List Tok) → P ts x → Q x.1 xs → Q ts (x.0 ∷ xs.0, xs.1))
-    → ((ts : List Tok) → Says (P ts) (item ts)) → (n : ℕ) (ts : List Tok) → Says (Q ts) (many_at goes item n ts)
+pub says_many : {X : Type 0} (goes : List Lexed → Bool) (item : Reader X) (P : List Lexed → X × List Lexed → Type 0) (Q : List Lexed → List X × List Lexed → Type 0)
+    → ((ts : List Lexed) → Q ts ([], ts)) → ((ts : List Lexed) (x : X × List Lexed) (xs : List X × List Lexed) → P ts x → Q x.1 xs → Q ts (x.0 ∷ xs.0, xs.1))
+    → ((ts : List Lexed) → Says (P ts) (item ts)) → (n : ℕ) (ts : List Lexed) → Says (Q ts) (many_at goes item n ts)
 unfolding many_at
 says_many goes item P Q none more one zero ts = says_ok (none ts)
 says_many goes item P Q none more one (suc n) ts =
     says_either (goes ts) (says (one ts) (λ x p. says (says_many goes item P Q none more one n x.1) (λ xs q. says_ok (more ts x xs p q)))) (says_ok (none ts))
 
 -- the first token
-pub record Leads (ts : List Tok) (at : Pos) : Type 0 where
-  pub word : W
-  pub rest : List Tok
-  pub same : ts ≡ (record { word = word; at = at }) ∷ rest
+pub record Leads (ts : List Lexed) (at : Pos) : Type 0 where
+  pub lexeme : Lexeme
+  pub rest : List Lexed
+  pub same : ts ≡ (record { lexeme = lexeme; at = at }) ∷ rest
 
-pub says_place : (ts : List Tok) → Says (Leads ts) (place_at ts)
+pub says_place : (ts : List Lexed) → Says (Leads ts) (place_at ts)
 says_place [] = says_err
-says_place (t ∷ ts) = says_ok (record { word = t.word; rest = ts; same = refl })
+says_place (t ∷ ts) = says_ok (record { lexeme = t.lexeme; rest = ts; same = refl })
 
-abbrev pub first_at : Pos → List Tok → Pos
+abbrev pub first_at : Pos → List Lexed → Pos
 first_at other [] = other
 first_at other (t ∷ ts) = t.at

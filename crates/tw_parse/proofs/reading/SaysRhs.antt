@@ -2,8 +2,8 @@
 use Rattle.std.proofs.Common.{◌≡◌, refl, ℕ, List, ◌∷◌, length, ap, arith}
 use Rattle.tw_text.specs.declared.place.Pos.{Pos}
 use Rattle.tw_syntax.specs.Names.{NameTree}
-use Rattle.tw_parse.specs.declared.word.Mark.TheVariants as m
-use Rattle.tw_parse.specs.Words.{Tok, name_at, sign_at}
+use Rattle.tw_lex.specs.declared.symbol.Symbol.TheVariants as symbols
+use Rattle.tw_lex.specs.Tokens.{Lexed, name_at, sign_at}
 use Rattle.tw_parse.specs.Grammar as form
 use Rattle.tw_parse.specs.Grammar.{bound_text, call_bound_text, MoreNamesForm, more_names_text, NamesForm, names_text, rhs_text}
 use Rattle.tw_parse.specs.Trees.{bound_tree, call_bound_tree, more_names_tree, names_tree, rhs_tree}
@@ -17,8 +17,8 @@ use Rattle.tw_parse.proofs.reading.SaysExprs.{says_expr}
 says_named_bound : Spells bound_text bound_tree named_bound_at
 unfolding named_bound_at
 says_named_bound ts =
-    says (says_name ts) (λ name p. says_either (leads m.Minus name.1)
-    (says (says_mark m.Minus name.1) (λ minus q. says (says_small minus.1) (λ number r.
+    says (says_name ts) (λ name p. says_either (leads symbols.Minus name.1)
+    (says (says_mark symbols.Minus name.1) (λ minus q. says (says_small minus.1) (λ number r.
     says_ok (record { form = form.Less name.0.at name.0.text minus.0 r.at number.0 r.small; spelled = cc; value = refl }))))
     (says_ok (record { form = form.Named name.0.at name.0.text; spelled = p.same; value = refl })))
 
@@ -31,24 +31,24 @@ says_bound ts =
 says_call_bound : Spells call_bound_text call_bound_tree call_bound_at
 unfolding call_bound_at
 says_call_bound ts =
-    says_either (leads m.OpenBracket ts)
-    (says (says_mark m.OpenBracket ts) (λ begin p. says (says_bound begin.1) (λ bound c. says (says_mark m.CloseBracket bound.1) (λ close q.
+    says_either (leads symbols.OpenBracket ts)
+    (says (says_mark symbols.OpenBracket ts) (λ begin p. says (says_bound begin.1) (λ bound c. says (says_mark symbols.CloseBracket bound.1) (λ close q.
     says_ok (record { form = form.Bound begin.0 c.form close.0; spelled = cc; value = cc })))))
     (says_ok (record { form = form.NoBound; spelled = refl; value = refl }))
 
-record CommaName (ts : List Tok) (x : NameTree × List Tok) : Type 0 where
+record CommaName (ts : List Lexed) (x : NameTree × List Lexed) : Type 0 where
   pub comma : Pos
-  pub same : ts ≡ sign_at m.Comma comma ∷ name_at x.0.text x.0.at ∷ x.1
+  pub same : ts ≡ sign_at symbols.Comma comma ∷ name_at x.0.text x.0.at ∷ x.1
 
-says_comma_name : (ts : List Tok) → Says (CommaName ts) (comma_name_at ts)
+says_comma_name : (ts : List Lexed) → Says (CommaName ts) (comma_name_at ts)
 unfolding comma_name_at
-says_comma_name ts = says (says_mark m.Comma ts) (λ comma p. says_as (says_name comma.1) (λ name q. record { comma = comma.0; same = cc }))
+says_comma_name ts = says (says_mark symbols.Comma ts) (λ comma p. says_as (says_name comma.1) (λ name q. record { comma = comma.0; same = cc }))
 
-pub comma_name_shorter : (ts : List Tok) → Says (Shorter ts) (comma_name_at ts)
+pub comma_name_shorter : (ts : List Lexed) → Says (Shorter ts) (comma_name_at ts)
 comma_name_shorter ts = says_as (says_comma_name ts) (λ x h. record { less = rw h.same (omega arith) })
 
-says_more_names : (n : ℕ) → Spells more_names_text more_names_tree (many_at (leads m.Comma) comma_name_at n)
-says_more_names n ts = says_many (leads m.Comma) comma_name_at CommaName (Got more_names_text more_names_tree)
+says_more_names : (n : ℕ) → Spells more_names_text more_names_tree (many_at (leads symbols.Comma) comma_name_at n)
+says_more_names n ts = says_many (leads symbols.Comma) comma_name_at CommaName (Got more_names_text more_names_tree)
     (λ us. record { form = form.NoMore; spelled = refl; value = refl })
     (λ us x xs h c. record { form = form.More h.comma x.0.at x.0.text c.form; spelled = cc; value = ap (λ l. x.0 ∷ l) c.value }) says_comma_name n ts
 
@@ -59,17 +59,17 @@ says_names ts =
     says_ok (record { form = form.Names first.0.at first.0.text c.form; spelled = cc; value = ap (λ l. first.0 ∷ l) c.value }))))
     (says_ok (record { form = form.NoNames; spelled = refl; value = refl }))
 
-record Args (ts : List Tok) (x : List NameTree × List Tok) : Type 0 where
+record Args (ts : List Lexed) (x : List NameTree × List Lexed) : Type 0 where
   pub begin : Pos
   pub names : NamesForm
   pub close : Pos
-  pub same : ts ≡ sign_at m.Open begin ∷ names_text names (sign_at m.Close close ∷ x.1)
+  pub same : ts ≡ sign_at symbols.OpenParen begin ∷ names_text names (sign_at symbols.CloseParen close ∷ x.1)
   pub value : x.0 ≡ names_tree names
 
-says_args : (room : ℕ) (ts : List Tok) → Says (Args ts) (args_at room ts)
+says_args : (room : ℕ) (ts : List Lexed) → Says (Args ts) (args_at room ts)
 unfolding args_at
 says_args room ts =
-    says (says_open m.Open room ts) (λ begin p. says (says_names begin.1) (λ names c. says (says_mark m.Close names.1) (λ close q.
+    says (says_open symbols.OpenParen room ts) (λ begin p. says (says_names begin.1) (λ names c. says (says_mark symbols.CloseParen names.1) (λ close q.
     says_ok (record { begin = begin.0; names = c.form; close = close.0; same = cc; value = c.value }))))
 
 says_call : (room : ℕ) → Spells rhs_text rhs_tree (call_at room)
@@ -81,7 +81,7 @@ says_call room ts =
 pub says_rhs : (room : ℕ) → Spells rhs_text rhs_tree (rhs_at room)
 unfolding rhs_at alloc_at
 says_rhs room ts =
-    says_either (leads m.Alloc ts) (says (says_mark m.Alloc ts) (λ at p. says (says_angle (type_at room) room (says_type room) at.1) (λ of c.
+    says_either (leads symbols.Alloc ts) (says (says_mark symbols.Alloc ts) (λ at p. says (says_angle (type_at room) room (says_type room) at.1) (λ of c.
     says_ok (record { form = form.Alloc at.0 c.less c.ty c.more; spelled = cc; value = cc }))))
     (says_either (leads_call ts) (says_call room ts)
     (says (says_expr room ts) (λ expr c. says_ok (record { form = form.Plain c.form; spelled = c.spelled; value = cc }))))

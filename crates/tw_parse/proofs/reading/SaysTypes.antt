@@ -3,10 +3,10 @@ use Rattle.std.proofs.Common.{◌≡◌, refl, ℕ, zero, suc, ◌==◌, List, [
 use Rattle.tw_text.specs.declared.place.Pos.{Pos}
 use Rattle.tw_syntax.specs.Names.{NameTree}
 use Rattle.tw_syntax.specs.Types.{WrittenTree}
-use Rattle.tw_parse.specs.declared.word.Mark.{Mark}
-use Rattle.tw_parse.specs.declared.word.Mark.TheVariants as m
+use Rattle.tw_lex.specs.declared.symbol.Symbol.{Symbol}
+use Rattle.tw_lex.specs.declared.symbol.Symbol.TheVariants as symbols
 use Rattle.tw_parse.specs.declared.stop.Halt.TheVariants.{Syntax}
-use Rattle.tw_parse.specs.Words.{W, Name, Number, Sign, Tok, name_at, number_at, sign_at}
+use Rattle.tw_lex.specs.Tokens.{Lexeme, Name, Number, Sign, Lexed, name_at, number_at, sign_at}
 use Rattle.tw_parse.specs.Grammar as form
 use Rattle.tw_parse.specs.Grammar.{TypeForm, type_text}
 use Rattle.tw_parse.specs.Trees.{type_tree}
@@ -15,85 +15,85 @@ use Rattle.tw_parse.specs.Reading.{angle_with, ptr_with, pair_with, paren_with, 
 use Rattle.tw_parse.proofs.tokens.Words.{tok, is_mark-true}
 use Rattle.tw_parse.proofs.reading.Says.{Says, says, says_ok, says_err, says_as, says_either, Got, Spells}
 
-pub record Marked (mark : Mark) (ts : List Tok) (x : Pos × List Tok) : Type 0 where
+pub record Marked (mark : Symbol) (ts : List Lexed) (x : Pos × List Lexed) : Type 0 where
   pub same : ts ≡ sign_at mark x.0 ∷ x.1
 
-pub record Titled (ts : List Tok) (x : NameTree × List Tok) : Type 0 where
+pub record Titled (ts : List Lexed) (x : NameTree × List Lexed) : Type 0 where
   pub same : ts ≡ name_at x.0.text x.0.at ∷ x.1
 
-pub record Counted (ts : List Tok) (x : ℕ × List Tok) : Type 0 where
+pub record Counted (ts : List Lexed) (x : ℕ × List Lexed) : Type 0 where
   pub at : Pos
   pub same : ts ≡ number_at x.0 at ∷ x.1
 
-pub record Angled (ts : List Tok) (x : WrittenTree × List Tok) : Type 0 where
+pub record Angled (ts : List Lexed) (x : WrittenTree × List Lexed) : Type 0 where
   pub less : Pos
   pub ty : TypeForm
   pub more : Pos
-  pub same : ts ≡ sign_at m.Less less ∷ type_text ty (sign_at m.More more ∷ x.1)
+  pub same : ts ≡ sign_at symbols.Less less ∷ type_text ty (sign_at symbols.Greater more ∷ x.1)
   pub value : x.0 ≡ type_tree ty
 
-pub says_mark : (mark : Mark) (ts : List Tok) → Says (Marked mark ts) (take_mark mark ts)
+pub says_mark : (mark : Symbol) (ts : List Lexed) → Says (Marked mark ts) (take_mark mark ts)
 says_mark mark [] = says_err
-says_mark mark (t ∷ ts) = go (is_mark mark t.word) (is_mark-true mark t.word)
+says_mark mark (t ∷ ts) = go (is_mark mark t.lexeme) (is_mark-true mark t.lexeme)
   where
-    go : (is : Bool) → (is ≡ true → t.word ≡ Sign mark) → Says (Marked mark (t ∷ ts)) (if is then Ok (t.at, ts) else Err (Syntax (suc (length ts))))
+    go : (is : Bool) → (is ≡ true → t.lexeme ≡ Sign mark) → Says (Marked mark (t ∷ ts)) (if is then Ok (t.at, ts) else Err (Syntax (suc (length ts))))
     go true e = says_ok (record { same = ap (λ w. tok w t.at ∷ ts) (e refl) })
     go false e = says_err
 
-pub says_open : (mark : Mark) (room : ℕ) (ts : List Tok) → Says (Marked mark ts) (take_open mark room ts)
+pub says_open : (mark : Symbol) (room : ℕ) (ts : List Lexed) → Says (Marked mark ts) (take_open mark room ts)
 says_open mark room ts = says (says_mark mark ts) (λ at h. says_either (room == 0) says_err (says_ok h))
 
-pub says_name : (ts : List Tok) → Says (Titled ts) (take_name ts)
+pub says_name : (ts : List Lexed) → Says (Titled ts) (take_name ts)
 says_name [] = says_err
-says_name (t ∷ ts) = go t.word
+says_name (t ∷ ts) = go t.lexeme
   where
-    go : (w : W) → Says (Titled (tok w t.at ∷ ts)) (take_name (tok w t.at ∷ ts))
+    go : (w : Lexeme) → Says (Titled (tok w t.at ∷ ts)) (take_name (tok w t.at ∷ ts))
     go (Name text) = says_ok (record { same = refl })
     go (Number value) = says_err
     go (Sign mark) = says_err
 
-pub says_number : (ts : List Tok) → Says (Counted ts) (take_number ts)
+pub says_number : (ts : List Lexed) → Says (Counted ts) (take_number ts)
 says_number [] = says_err
-says_number (t ∷ ts) = go t.word
+says_number (t ∷ ts) = go t.lexeme
   where
-    go : (w : W) → Says (Counted (tok w t.at ∷ ts)) (take_number (tok w t.at ∷ ts))
+    go : (w : Lexeme) → Says (Counted (tok w t.at ∷ ts)) (take_number (tok w t.at ∷ ts))
     go (Number value) = says_ok (record { at = t.at; same = refl })
     go (Name text) = says_err
     go (Sign mark) = says_err
 
-pub says_angle : (inner : Reader WrittenTree) (room : ℕ) → Spells type_text type_tree inner → (ts : List Tok) → Says (Angled ts) (angle_with inner room ts)
+pub says_angle : (inner : Reader WrittenTree) (room : ℕ) → Spells type_text type_tree inner → (ts : List Lexed) → Says (Angled ts) (angle_with inner room ts)
 unfolding angle_with
 says_angle inner room spells ts =
-    says (says_open m.Less room ts) (λ less p. says (spells less.1) (λ to c. says (says_mark m.More to.1) (λ more q.
+    says (says_open symbols.Less room ts) (λ less p. says (spells less.1) (λ to c. says (says_mark symbols.Greater to.1) (λ more q.
     says_ok (record { less = less.0; ty = c.form; more = more.0; same = cc; value = c.value }))))
 
-says_pair : (inner : Reader WrittenTree) → Spells type_text type_tree inner → (at : Pos) (ts : List Tok)
-    → Says (Got type_text type_tree (sign_at m.Open at ∷ ts)) (pair_with inner at ts)
+says_pair : (inner : Reader WrittenTree) → Spells type_text type_tree inner → (at : Pos) (ts : List Lexed)
+    → Says (Got type_text type_tree (sign_at symbols.OpenParen at ∷ ts)) (pair_with inner at ts)
 unfolding pair_with
 says_pair inner spells at ts =
-    says (spells ts) (λ first c. says (says_mark m.Comma first.1) (λ comma p. says (spells comma.1) (λ second d. says (says_mark m.Close second.1) (λ close q.
+    says (spells ts) (λ first c. says (says_mark symbols.Comma first.1) (λ comma p. says (spells comma.1) (λ second d. says (says_mark symbols.CloseParen second.1) (λ close q.
     says_ok (record { form = form.Pair at c.form comma.0 d.form close.0; spelled = cc; value = cc })))))
 
 says_paren : (inner : Reader WrittenTree) (room : ℕ) → Spells type_text type_tree inner → Spells type_text type_tree (paren_with inner room)
 unfolding paren_with
 says_paren inner room spells ts =
-    says (says_open m.Open room ts) (λ begin p. says_either (leads m.Close begin.1)
-    (says (says_mark m.Close begin.1) (λ close q. says_ok (record { form = form.Unit begin.0 close.0; spelled = cc; value = refl })))
+    says (says_open symbols.OpenParen room ts) (λ begin p. says_either (leads symbols.CloseParen begin.1)
+    (says (says_mark symbols.CloseParen begin.1) (λ close q. says_ok (record { form = form.Unit begin.0 close.0; spelled = cc; value = refl })))
     (says_as (says_pair inner spells begin.0 begin.1) (λ x c. record { form = c.form; spelled = cc; value = c.value })))
 
 says_plain_type : Spells type_text type_tree plain_type_at
 unfolding plain_type_at
 says_plain_type ts =
-    says_either (leads m.Uint ts) (says (says_mark m.Uint ts) (λ at p. says_ok (record { form = form.Uint at.0; spelled = p.same; value = refl })))
-    (says_either (leads m.Bool ts) (says (says_mark m.Bool ts) (λ at p. says_ok (record { form = form.Bool at.0; spelled = p.same; value = refl })))
+    says_either (leads symbols.Uint ts) (says (says_mark symbols.Uint ts) (λ at p. says_ok (record { form = form.Uint at.0; spelled = p.same; value = refl })))
+    (says_either (leads symbols.Bool ts) (says (says_mark symbols.Bool ts) (λ at p. says_ok (record { form = form.Bool at.0; spelled = p.same; value = refl })))
     (says (says_name ts) (λ name p. says_ok (record { form = form.Named name.0.at name.0.text; spelled = p.same; value = refl }))))
 
 says_type_with : (inner : Reader WrittenTree) (room : ℕ) → Spells type_text type_tree inner → Spells type_text type_tree (type_with inner room)
 unfolding type_with ptr_with
 says_type_with inner room spells ts =
-    says_either (leads m.Ptr ts) (says (says_mark m.Ptr ts) (λ at p. says (says_angle inner room spells at.1) (λ to c.
+    says_either (leads symbols.Ptr ts) (says (says_mark symbols.Ptr ts) (λ at p. says (says_angle inner room spells at.1) (λ to c.
     says_ok (record { form = form.Ptr at.0 c.less c.ty c.more; spelled = cc; value = cc }))))
-    (says_either (leads m.Open ts) (says_paren inner room spells ts) (says_plain_type ts))
+    (says_either (leads symbols.OpenParen ts) (says_paren inner room spells ts) (says_plain_type ts))
 
 pub says_type : (room : ℕ) → Spells type_text type_tree (type_at room)
 unfolding type_at

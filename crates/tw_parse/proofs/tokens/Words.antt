@@ -1,41 +1,31 @@
 -- Words: a token of each, marks by their numbers and their texts, and what the tests on words tell.
-use Rattle.std.proofs.Common.{◌≡◌, ℕ, ◌<◌, ◌≤◌, ◌==◌, ◌||◌, ◌⊎◌, inl, inr, Bool, true, false, get_or, refl, ap, sym, ◌∙◌, lit<, eqb-true, eq-eqb, arith}
-use Rattle.std.specs.Str.{chars}
+use Rattle.std.proofs.Common.{◌≡◌, ℕ, ◌≤◌, ◌==◌, ◌||◌, ◌⊎◌, inl, inr, Bool, true, false, get_or, refl, ap, sym, ◌∙◌, eqb-true, eq-eqb, arith}
 use Rattle.tw_text.specs.declared.place.Pos.{Pos}
-use Rattle.tw_parse.specs.declared.word.Mark.{Mark}
-use Rattle.tw_parse.specs.declared.word.Mark.TheVariants as m
-use Rattle.tw_parse.specs.Words.{W, Name, Number, Sign, Tok, all_marks, mark_text}
+use Rattle.tw_lex.specs.declared.symbol.Symbol.{Symbol}
+use Rattle.tw_lex.specs.declared.symbol.Symbol.TheVariants as symbols
+use Rattle.tw_lex.specs.Tokens.{Lexeme, Name, Number, Sign, Lexed}
+use Rattle.tw_lex.specs.Symbols.{all_symbols}
 use Rattle.tw_parse.specs.Steps.{mark_number, is_mark, is_step, is_small}
 
 -- a word at a place
-abbrev pub tok : W → Pos → Tok
-tok w p = record { word = w; at = p }
+abbrev pub tok : Lexeme → Pos → Lexed
+tok w p = record { lexeme = w; at = p }
 
 -- each mark stands in the list of all marks
-pub mark_at-number : (mark : Mark) → get_or all_marks (mark_number mark) m.Exchange ≡ mark
-mark_at-number m.Exchange = refl
+mark_at-number : (mark : Symbol) → get_or all_symbols (mark_number mark) symbols.Swap ≡ mark
+mark_at-number symbols.Swap = refl
 mark_at-number mark = refl
 
-pub mark_number-lt : (mark : Mark) → mark_number mark < 41
-mark_number-lt m.Exchange = lit< tt
-mark_number-lt mark = lit< tt
-
--- the marks are ASCII
-pub chars-mark_text : (mark : Mark) → chars (mark_text mark) ≡ mark_text mark
-unfolding chars
-chars-mark_text m.Exchange = refl
-chars-mark_text mark = refl
-
 -- the same number, the same mark
-mark-of_number : (mark other : Mark) → mark_number mark ≡ mark_number other → mark ≡ other
-mark-of_number mark other e = sym (mark_at-number mark) ∙ (ap (λ n. get_or all_marks n m.Exchange) e ∙ mark_at-number other)
+mark-of_number : (mark other : Symbol) → mark_number mark ≡ mark_number other → mark ≡ other
+mark-of_number mark other e = sym (mark_at-number mark) ∙ (ap (λ n. get_or all_symbols n symbols.Swap) e ∙ mark_at-number other)
 
-pub is_mark-true : (mark : Mark) (w : W) → is_mark mark w ≡ true → w ≡ Sign mark
+pub is_mark-true : (mark : Symbol) (w : Lexeme) → is_mark mark w ≡ true → w ≡ Sign mark
 is_mark-true mark (Sign given) e = ap Sign (mark-of_number given mark (eqb-true _ _ e))
 is_mark-true mark (Name text) e = absurd (grind arith)
 is_mark-true mark (Number value) e = absurd (grind arith)
 
-pub is_mark-same : (mark : Mark) → is_mark mark (Sign mark) ≡ true
+pub is_mark-same : (mark : Symbol) → is_mark mark (Sign mark) ≡ true
 is_mark-same mark = eq-eqb _ _ refl
 
 pub is_step-true : (value : ℕ) → is_step value ≡ true → (value ≡ 1) ⊎ (value ≡ 2)

@@ -1,27 +1,26 @@
-use Rattle.std.proofs.Common.{◌∙◌, sym, rules, arith}
-use Rattle.tw_lex.proofs.Endings.{all_read, refused_at}
-use Rattle.tw_lex.proofs.Growing.{splits_more, found_shorter}
+use Rattle.std.proofs.Common.{◌≡◌, ◌∙◌, sym, subst, List, map, rules}
+use mathlib.Core.List.{append-nil}
+use Rattle.std.proofs.lemmas.List.{map_push}
+use Rattle.std.specs.Str.{chars}
+use Rattle.tw_text.specs.Places.{first_place}
+use Rattle.tw_lex.specs.Scans.{seen, IsToken}
+use Rattle.tw_lex.specs.Tokens.{Lexed, HasTokens}
+use Rattle.tw_lex.proofs.Endings.{refused_at}
+use Rattle.tw_lex.proofs.Growing.{join, join_all, join_stop, all_push}
 use Rattle.tw_lex.proofs.lexer.split.Goals as goal
 
-pub returns-in_default-clause-refused : goal.returns-in_default-clause-refused
-returns-in_default-clause-refused c r e =
-    refused_at _ c.loop-rest.rest.now _ c.loop-rest.at r c.loop-rest.invariant.splits c.loop-rest.invariant.text (sym c.is_empty.ensures ∙ c.loop-rest-test.true) c.in_default.ensures.none cc
+pub loop-token-preserved : goal.loop-token-preserved
+loop-token-preserved c = record {
+  text = search rules;
+  splits = rw (c.in-Ok.ensures.items, map_push seen c.loop-token.items.items _) (join c.loop-token.invariant.splits c.in-Token.ensures.0);
+  texts = rw c.in-Ok.ensures.items (all_push IsToken c.loop-token.items.items _ c.loop-token.invariant.texts c.in-Token.ensures.1);
+}
 
-pub loop-rest-smaller : goal.loop-rest-smaller
-loop-rest-smaller c = found_shorter _ _ _ c.in-Some.ensures.some
+pub returns-in-End-clause-tokens : goal.returns-in-End-clause-tokens
+returns-in-End-clause-tokens c =
+    subst (λ (toks : List Lexed). HasTokens (chars c.args.text.now) first_place toks) (append-nil (map seen c.loop-token.items.items)) (join_all c.loop-token.invariant.splits c.in-End.ensures)
 
-pub loop-rest-preserved : goal.loop-rest-preserved
-loop-rest-preserved c =
-    let i = c.loop-rest.invariant in
-    let len = c.before-taken.ensures.len in
-    let place = c.after_text-at.ensures in
-    record {
-      text = search rules;
-      splits = splits_more _ c.loop-rest.rest.now _ c.before-taken.result.now _ _ _ c.loop-rest.at _ i.splits c.in-Some.ensures.some c.before-taken.ensures.spelled c.in_ok-keep.ensures.kept place.place;
-      line = omega arith;
-      col = omega arith;
-      counted = place.counts;
-    }
-
-pub returns-clause-tokens : goal.returns-clause-tokens
-returns-clause-tokens c = all_read _ c.loop-rest.rest.now _ _ c.loop-rest.invariant.splits (sym c.is_empty.ensures ∙ c.loop-rest-test.false)
+pub returns-in-Wrong-clause-refused : goal.returns-in-Wrong-clause-refused
+returns-in-Wrong-clause-refused c r e =
+    let same : c.no_token.result ≡ r = cc in
+    refused_at (chars c.args.text.now) _ r (join_stop c.loop-token.invariant.splits c.in-Wrong.ensures) (sym c.no_token.ensures ∙ same)

@@ -1,12 +1,11 @@
 use Rattle.std.proofs.Common.{◌-◌, drop, map}
 use Rattle.tw_syntax.specs.Programs.{decl_tree}
-use Rattle.tw_parse.specs.Items.{toks}
-use Rattle.tw_parse.specs.Steps.{all_at, put_first}
+use Rattle.tw_parse.specs.Steps.{toks, all_at, put_first}
 use Rattle.tw_parse.specs.ReadingStatements.{is_more, decl_at}
 use Rattle.tw_parse.proofs.code.Many.{Reads}
 use Rattle.tw_parse.proofs.programs.more_decls.Given as goal
 
 abbrev pub invariant-loop : goal.invariant-loop
 invariant-loop l =
-    Reads is_more (decl_at l.fn.room) (map decl_tree l.decls.items) (l.count - l.counter) (drop l.at (toks l.items))
-    (put_first (decl_tree l.fn.first) (all_at is_more (decl_at l.fn.room) (drop l.initial.at (toks l.items))))
+    Reads is_more (decl_at l.fn.room) (map decl_tree l.decls.items) (l.count - l.counter) (drop l.at (toks l.tokens))
+    (put_first (decl_tree l.fn.first) (all_at is_more (decl_at l.fn.room) (drop l.initial.at (toks l.tokens))))

@@ -1,7 +1,6 @@
 use Rattle.std.proofs.Common.{◌+◌, ◌*◌, ◌-◌, suc, drop, map}
 use Rattle.tw_syntax.specs.Statements.{stmt_tree}
-use Rattle.tw_parse.specs.Items.{toks}
-use Rattle.tw_parse.specs.Steps.{all_at}
+use Rattle.tw_parse.specs.Steps.{toks, all_at}
 use Rattle.tw_parse.specs.ReadingStatements.{goes_before, stmt_at}
 use Rattle.tw_parse.proofs.code.Many.{Reads}
 use Rattle.tw_parse.proofs.statements.+statements.Given as goal
@@ -29,5 +28,5 @@ decreases-stmts l = 8 * l.room + 8
 
 abbrev pub invariant-stmts-loop : goal.invariant-stmts-loop
 invariant-stmts-loop l =
-    Reads (goes_before l.fn.end) (stmt_at (suc l.fn.room)) (map stmt_tree l.stmts.items) (l.count - l.counter) (drop l.at (toks l.items))
-    (all_at (goes_before l.fn.end) (stmt_at (suc l.fn.room)) (drop l.initial.at (toks l.items)))
+    Reads (goes_before l.fn.end) (stmt_at (suc l.fn.room)) (map stmt_tree l.stmts.items) (l.count - l.counter) (drop l.at (toks l.tokens))
+    (all_at (goes_before l.fn.end) (stmt_at (suc l.fn.room)) (drop l.initial.at (toks l.tokens)))

@@ -1,0 +1,50 @@
+//! Names and keywords.
+
+ghost use Rattle.std.specs.Prelude.{◌≡◌, ℕ, true, List, ◌∷◌};
+ghost use Rattle.std.specs.Str.{chars};
+ghost use Rattle.tw_text.specs.Cuts.{Begins};
+ghost use Rattle.tw_lex.specs.Scans.{Found, word_kind};
+ghost use Rattle.tw_lex.specs.Symbols.{find_symbol, symbol_of};
+ghost use Rattle.tw_lex.specs.Tokens.{starts_name};
+
+use crate::run::{Run, after_run};
+use crate::scanned::Scanned;
+use crate::{Symbol, TokenKind};
+use tw_text::before;
+
+/// The symbol of a list with this text, if one has it.
+fn symbol_with(text: &str, list: &[Symbol]) -> Option<Symbol>
+    ensures { result ≡ find_symbol list.now text.now }
+{
+    for symbol in list {
+        if symbol.text() == text {
+            return Some(*symbol);
+        }
+    }
+    None
+}
+
+/// What letters that begin with a character are: a keyword or a name.
+fn kind_of(text: &str, first: char) -> TokenKind
+    requires { (cs : List ℕ) × (chars text.now ≡ first ∷ cs) }
+    ensures { result ≡ word_kind (symbol_of (chars text.now)) }
+{
+    match symbol_with(text, Symbol::starting_with(first)) {
+        Some(symbol) => TokenKind::Word(symbol),
+        None => TokenKind::Name,
+    }
+}
+
+/// The name or keyword at the front of a text, from its first character and what follows that.
+pub fn word<'t>(text: &'t str, first: char, following: &'t str) -> Scanned<'t>
+    requires begins { Begins text.now first following.now }
+    requires starts { starts_name first ≡ true }
+    ensures { Found text.now result.rest.now result.count result.kind }
+{
+    let (rest, count) = after_run(following, Run::Name);
+    Scanned {
+        kind: kind_of(before(text, rest), first),
+        count: count + 1,
+        rest,
+    }
+}
