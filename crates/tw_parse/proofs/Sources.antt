@@ -11,13 +11,14 @@ use Rattle.tw_lex.specs.Scans.{IsNoToken}
 use Rattle.tw_lex.proofs.Splits.{one_reading, no_reading}
 use Rattle.tw_lex.proofs.Endings.{one_refusal}
 use Rattle.tw_syntax.specs.Programs.{ProgramTree}
-use Rattle.tw_parse.specs.declared.stop.Halt.{Halt}
-use Rattle.tw_parse.specs.declared.stop.Halt.TheVariants.{Syntax, Nesting}
+use Rattle.tw_parse.specs.declared.error.Rejection.{Rejection}
+use Rattle.tw_parse.specs.declared.error.Rejection.TheVariants.{Syntax, Nesting}
 use Rattle.tw_lex.specs.Tokens.{Lexed, HasTokens}
 use Rattle.tw_parse.specs.Trees.{HasTree}
-use Rattle.tw_parse.specs.Whole.{IsShallow, IsSyntaxAt, IsTooDeepAt}
-use Rattle.tw_parse.specs.ReadingStatements.{whole_at}
-use Rattle.tw_parse.specs.Parsed.{IsNoText, IsParsed, IsStopped, NoText, NoToken, Halted, IsFault, refusal_of, end_of}
+use Rattle.tw_parse.specs.Prefixes.{IsShallow, IsSyntaxAt, IsTooDeepAt}
+use Rattle.tw_parse.specs.reading.Statements.{whole_at}
+use Rattle.tw_parse.specs.Refusals.{IsNoText, refusal_of, end_of}
+use Rattle.tw_parse.specs.reading.Outcomes.{IsParsed, IsStopped, NoText, NoToken, Halted, IsFault}
 use Rattle.tw_parse.specs.Sources.{IsNoProgram, IsTooDeep, IsSource, IsRefused, Utf8, Token, Program, Depth}
 use Rattle.tw_parse.proofs.forms.OneProgram.{tree-same}
 use Rattle.tw_parse.proofs.reading.Readings.{read-tree, read-syntax, read-nesting}
@@ -34,7 +35,7 @@ pub one_source : (bytes : List ℕ) (tree other : ProgramTree) → IsSource byte
 one_source bytes tree other s o =
     tree-same s.toks other tree (subst (λ (ts : List Lexed). HasTree ts other) (one_toks (chars bytes) o.toks s.toks o.has s.has) o.has_tree) s.has_tree
 
-halted_at : (bytes : List ℕ) (refusal : Refusal) (toks : List Lexed) (halt : Halt) → IsUtf8 bytes → HasTokens (chars bytes) first_place toks → whole_at toks ≡ Err halt
+halted_at : (bytes : List ℕ) (refusal : Refusal) (toks : List Lexed) (halt : Rejection) → IsUtf8 bytes → HasTokens (chars bytes) first_place toks → whole_at toks ≡ Err halt
     → refusal ≡ refusal_of halt toks (end_of bytes) → IsRefused bytes refusal
 halted_at bytes refusal toks (Syntax left) text has reads is =
     Program (record { text = text; toks = toks; left = left; has = has; syntax = read-syntax toks left reads; is = is })

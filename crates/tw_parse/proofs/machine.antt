@@ -1,6 +1,7 @@
 -- The machine that goes through tokens comes to what the grammar says of them: a program, or where one goes wrong.
 -- What it takes meets what is awaited (Awaited, Built.., Forests); each form is taken (Taken..); what is awaited can be
 -- completed (Completions); brackets are counted as the grammar counts them (Counts, Shallow); where it halts (Halts).
+pub mod Automaton
 pub mod Walks
 pub mod Awaited
 pub mod BuiltTypes

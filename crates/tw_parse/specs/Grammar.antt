@@ -72,15 +72,15 @@ pub data OpForm : Type 0 where
   And : OpForm
   Or : OpForm
 
-abbrev pub op_mark : OpForm → Symbol
-op_mark Add = symbols.Plus
-op_mark Sub = symbols.Minus
-op_mark Mul = symbols.Star
-op_mark Lt = symbols.Less
-op_mark Eq = symbols.Equal
-op_mark Ne = symbols.NotEqual
-op_mark And = symbols.And
-op_mark Or = symbols.Or
+abbrev pub op_symbol : OpForm → Symbol
+op_symbol Add = symbols.Plus
+op_symbol Sub = symbols.Minus
+op_symbol Mul = symbols.Star
+op_symbol Lt = symbols.Less
+op_symbol Eq = symbols.Equal
+op_symbol Ne = symbols.NotEqual
+op_symbol And = symbols.And
+op_symbol Or = symbols.Or
 
 -- expr = "not" atom | "(" atom "," atom ")" | atom [ op atom ]
 pub data ExprForm : Type 0 where
@@ -93,7 +93,7 @@ abbrev pub expr_text : ExprForm → List Lexed → List Lexed
 expr_text (Not p atom) k = sign_at symbols.Not p ∷ atom_text atom k
 expr_text (Two p first q second r) k = sign_at symbols.OpenParen p ∷ atom_text first (sign_at symbols.Comma q ∷ atom_text second (sign_at symbols.CloseParen r ∷ k))
 expr_text (One atom) k = atom_text atom k
-expr_text (Op left op p right) k = atom_text left (sign_at (op_mark op) p ∷ atom_text right k)
+expr_text (Op left op p right) k = atom_text left (sign_at (op_symbol op) p ∷ atom_text right k)
 
 -- bound = number | name [ "-" number ], with numbers of at most 255
 pub data BoundForm : Type 0 where

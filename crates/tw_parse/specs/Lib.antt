@@ -1,11 +1,7 @@
 pub mod Grammar
 pub mod Statements
-pub mod Whole
 pub mod Trees
-pub mod Steps
-pub mod Reading
-pub mod ReadingStatements
-pub mod Parts
-pub mod Parsed
-pub mod Machine
+pub mod Prefixes
+pub mod Refusals
 pub mod Sources
+pub mod reading

@@ -5,13 +5,13 @@ use Rattle.tw_text.specs.declared.refusal.Refusal.{Refusal}
 use Rattle.tw_text.specs.Places.{first_place}
 use Rattle.tw_lex.specs.Scans.{IsNoToken}
 use Rattle.tw_syntax.specs.Programs.{ProgramTree}
-use Rattle.tw_parse.specs.declared.stop.Halt.TheVariants.{Syntax, Nesting}
+use Rattle.tw_parse.specs.declared.error.Rejection.TheVariants.{Syntax, Nesting}
 use Rattle.tw_lex.specs.Tokens.{Lexed, HasTokens}
 use Rattle.tw_parse.specs.Trees.{HasTree}
-use Rattle.tw_parse.specs.Whole.{IsShallow, IsSyntaxAt, IsTooDeepAt}
-use Rattle.tw_parse.specs.Parsed.{IsNoText, refusal_of, end_of}
+use Rattle.tw_parse.specs.Prefixes.{IsShallow, IsSyntaxAt, IsTooDeepAt}
+use Rattle.tw_parse.specs.Refusals.{IsNoText, refusal_of, end_of}
 
--- the source is a text whose tokens have this tree, with at most 64 brackets open at each place
+-- the source is a text whose tokens have this tree, with no more brackets open at a place than the limit says
 pub record IsSource (bytes : List ℕ) (tree : ProgramTree) : Type 0 where
   pub text : IsUtf8 bytes
   pub toks : List Lexed
@@ -28,7 +28,7 @@ pub record IsNoProgram (bytes : List ℕ) (refusal : Refusal) : Type 0 where
   pub syntax : IsSyntaxAt toks left
   pub is : refusal ≡ refusal_of (Syntax left) toks (end_of bytes)
 
--- the source is refused where the 65th bracket is opened
+-- the source is refused where a bracket more than the limit is opened
 pub record IsTooDeep (bytes : List ℕ) (refusal : Refusal) : Type 0 where
   pub text : IsUtf8 bytes
   pub toks : List Lexed
@@ -38,7 +38,7 @@ pub record IsTooDeep (bytes : List ℕ) (refusal : Refusal) : Type 0 where
   pub is : refusal ≡ refusal_of (Nesting left) toks (end_of bytes)
 
 -- the source is refused so: at the first byte that begins no character, at characters that are no token, where no
--- program goes on, or at the 65th open bracket
+-- program goes on, or at the first bracket above the limit
 pub data IsRefused (bytes : List ℕ) (refusal : Refusal) : Type 0 where
   Utf8 : IsNoText bytes refusal → IsRefused bytes refusal
   Token : IsUtf8 bytes → IsNoToken (chars bytes) refusal → IsRefused bytes refusal

@@ -1,5 +1,5 @@
 -- The tree of each form of the grammar. The place of a type, an atom, an expression or a statement is that of its first token.
-use Rattle.std.specs.Prelude.{◌≡◌, ℕ, true, false, List, [], ◌∷◌, Option, Some, None}
+use Rattle.std.specs.Prelude.{◌≡◌, ℕ, true, false, List, [], ◌∷◌, Option, Some, None, codes, refl}
 use Rattle.tw_text.specs.declared.place.Pos.{Pos}
 use Rattle.tw_syntax.specs.declared.term.OpKind.{OpKind}
 use Rattle.tw_syntax.specs.declared.term.OpKind.TheVariants as kind
@@ -13,8 +13,9 @@ use Rattle.tw_parse.specs.Grammar as form
 use Rattle.tw_parse.specs.Grammar.{TypeForm, StepsForm, PathForm, AtomForm, OpForm, ExprForm, BoundForm, CallBoundForm, MoreNamesForm, NamesForm, RhsForm}
 use Rattle.tw_parse.specs.Statements as form_of
 use Rattle.tw_parse.specs.Statements.{StmtForm, BlockForm, StmtsForm, ParamForm, MoreParamsForm, ParamsForm, FunBoundForm, FunForm, DeclForm, ProgramForm}
-use Rattle.tw_lex.specs.Tokens.{Lexed}
-use Rattle.tw_parse.specs.Whole.{IsProgram}
+use Rattle.tw_lex.specs.declared.symbol.Symbol.TheVariants as symbols
+use Rattle.tw_lex.specs.Tokens.{Lexed, name_at, sign_at}
+use Rattle.tw_parse.specs.Prefixes.{IsProgram}
 
 -- a name at a place
 abbrev pub named : List ℕ → Pos → NameTree
@@ -153,3 +154,13 @@ decls_tree (form_of.Decls decl rest) = decl_tree decl ∷ decls_tree rest
 -- the tokens are a program with this tree
 abbrev pub HasTree : List Lexed → ProgramTree → Type 0
 HasTree toks tree = (program : IsProgram toks) × (tree ≡ record { decls = decls_tree program.0 })
+
+-- the tree of `type t = uint;`
+pub alias-has_tree : (p q r s t : Pos) → HasTree (sign_at symbols.Type p ∷ name_at (codes "t") q ∷ sign_at symbols.Define r ∷ sign_at symbols.Uint s ∷ sign_at symbols.Semicolon t ∷ [])
+    (record { decls = AliasDecl (record { name = named (codes "t") q; body = UintType s }) ∷ [] })
+alias-has_tree p q r s t = ((form_of.Last (form_of.Alias p q (codes "t") r (form.Uint s) t), refl), refl)
+
+-- the place of `x + 1` is that of `x`
+pub expr_tree-place : (p q r : Pos) → expr_tree (form.Op (form.Place (record { at = p; root = codes "x"; steps = form.NoSteps })) form.Add q (form.Number r 1))
+    ≡ OpExpr p kind.Add (PlaceAtom p (record { root = named (codes "x") p; steps = [] })) (NumberAtom r 1)
+expr_tree-place p q r = refl

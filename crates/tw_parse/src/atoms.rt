@@ -2,25 +2,25 @@
 
 ghost use Rattle.std.specs.Prelude.{◌≡◌, suc, drop};
 ghost use Rattle.tw_syntax.specs.Terms.{atom_tree};
-ghost use Rattle.tw_parse.specs.Steps.{toks};
-ghost use Rattle.tw_parse.specs.Steps.{Gives};
-ghost use Rattle.tw_parse.specs.Reading.{unit_at, null_at, zero_at, plain_atom_at, atom_at};
+ghost use Rattle.tw_parse.specs.reading.Steps.{toks};
+ghost use Rattle.tw_parse.specs.reading.Steps.{Returns};
+ghost use Rattle.tw_parse.specs.reading.Terms.{unit_at, null_at, zero_at, plain_atom_at, atom_at};
 
+use crate::error::ParseError;
 use crate::paths::path;
-use crate::stop::Stop;
-use crate::take::{leads, leads_number, place, take_mark, take_number, take_open};
-use crate::types::angle;
+use crate::take::{leads, leads_number, place, take_number, take_open, take_symbol};
+use crate::types::type_argument;
 use tw_lex::{Symbol, Token};
 use tw_syntax::{Atom, AtomKind};
 use tw_text::Arena;
 
 /// The unit value.
-#[tactic(auto, unfolding(crate::specs::Reading::unit_at))]
-fn unit<'a>(tokens: &[Token<'a>], at: &mut usize, room: u32) -> Result<Atom<'a>, Stop>
-    ensures { Gives (λ x. (atom_tree x, drop at.new (toks tokens.now))) result (unit_at room (drop at.old (toks tokens.now))) }
+#[tactic(auto, unfolding(crate::specs::reading::Terms::unit_at))]
+fn unit<'a>(tokens: &[Token<'a>], at: &mut usize, room: u32) -> Result<Atom<'a>, ParseError>
+    ensures { Returns (λ x. (atom_tree x, drop at.new (toks tokens.now))) result (unit_at room (drop at.old (toks tokens.now))) }
 {
     let place = take_open(Symbol::OpenParen, room, tokens, at)?;
-    take_mark(Symbol::CloseParen, tokens, at)?;
+    take_symbol(Symbol::CloseParen, tokens, at)?;
     Ok(Atom {
         at: place,
         kind: AtomKind::Unit,
@@ -28,17 +28,17 @@ fn unit<'a>(tokens: &[Token<'a>], at: &mut usize, room: u32) -> Result<Atom<'a>,
 }
 
 /// A null pointer.
-#[tactic(auto, unfolding(crate::specs::Reading::null_at))]
+#[tactic(auto, unfolding(crate::specs::reading::Terms::null_at))]
 fn null<'a>(
     arena: &'a Arena,
     tokens: &[Token<'a>],
     at: &mut usize,
     room: u32,
-) -> Result<Atom<'a>, Stop>
-    ensures { Gives (λ x. (atom_tree x, drop at.new (toks tokens.now))) result (null_at room (drop at.old (toks tokens.now))) }
+) -> Result<Atom<'a>, ParseError>
+    ensures { Returns (λ x. (atom_tree x, drop at.new (toks tokens.now))) result (null_at room (drop at.old (toks tokens.now))) }
 {
-    let place = take_mark(Symbol::Null, tokens, at)?;
-    let to = angle(arena, tokens, at, room)?;
+    let place = take_symbol(Symbol::Null, tokens, at)?;
+    let to = type_argument(arena, tokens, at, room)?;
     Ok(Atom {
         at: place,
         kind: AtomKind::Null(to),
@@ -46,17 +46,17 @@ fn null<'a>(
 }
 
 /// The default value of a type.
-#[tactic(auto, unfolding(crate::specs::Reading::zero_at))]
+#[tactic(auto, unfolding(crate::specs::reading::Terms::zero_at))]
 fn zero<'a>(
     arena: &'a Arena,
     tokens: &[Token<'a>],
     at: &mut usize,
     room: u32,
-) -> Result<Atom<'a>, Stop>
-    ensures { Gives (λ x. (atom_tree x, drop at.new (toks tokens.now))) result (zero_at room (drop at.old (toks tokens.now))) }
+) -> Result<Atom<'a>, ParseError>
+    ensures { Returns (λ x. (atom_tree x, drop at.new (toks tokens.now))) result (zero_at room (drop at.old (toks tokens.now))) }
 {
-    let place = take_mark(Symbol::Default, tokens, at)?;
-    let of = angle(arena, tokens, at, room)?;
+    let place = take_symbol(Symbol::Default, tokens, at)?;
+    let of = type_argument(arena, tokens, at, room)?;
     Ok(Atom {
         at: place,
         kind: AtomKind::Zero(of),
@@ -64,19 +64,23 @@ fn zero<'a>(
 }
 
 /// An atom without brackets.
-#[tactic(auto, unfolding(crate::specs::Reading::plain_atom_at))]
-fn plain_atom<'a>(arena: &'a Arena, tokens: &[Token<'a>], at: &mut usize) -> Result<Atom<'a>, Stop>
-    ensures { Gives (λ x. (atom_tree x, drop at.new (toks tokens.now))) result (plain_atom_at (drop at.old (toks tokens.now))) }
+#[tactic(auto, unfolding(crate::specs::reading::Terms::plain_atom_at))]
+fn plain_atom<'a>(
+    arena: &'a Arena,
+    tokens: &[Token<'a>],
+    at: &mut usize,
+) -> Result<Atom<'a>, ParseError>
+    ensures { Returns (λ x. (atom_tree x, drop at.new (toks tokens.now))) result (plain_atom_at (drop at.old (toks tokens.now))) }
 {
     if leads(Symbol::True, tokens, *at) {
-        let place = take_mark(Symbol::True, tokens, at)?;
+        let place = take_symbol(Symbol::True, tokens, at)?;
         return Ok(Atom {
             at: place,
             kind: AtomKind::True,
         });
     }
     if leads(Symbol::False, tokens, *at) {
-        let place = take_mark(Symbol::False, tokens, at)?;
+        let place = take_symbol(Symbol::False, tokens, at)?;
         return Ok(Atom {
             at: place,
             kind: AtomKind::False,
@@ -98,14 +102,14 @@ fn plain_atom<'a>(arena: &'a Arena, tokens: &[Token<'a>], at: &mut usize) -> Res
 }
 
 /// An atom, in which so many brackets may open.
-#[tactic(auto, unfolding(crate::specs::Reading::atom_at, crate::specs::Reading::atom_with))]
+#[tactic(auto, unfolding(crate::specs::reading::Terms::atom_at, crate::specs::reading::Terms::atom_with))]
 pub fn atom<'a>(
     arena: &'a Arena,
     tokens: &[Token<'a>],
     at: &mut usize,
     room: u32,
-) -> Result<Atom<'a>, Stop>
-    ensures { Gives (λ x. (atom_tree x, drop at.new (toks tokens.now))) result (atom_at (suc room) (drop at.old (toks tokens.now))) }
+) -> Result<Atom<'a>, ParseError>
+    ensures { Returns (λ x. (atom_tree x, drop at.new (toks tokens.now))) result (atom_at (suc room) (drop at.old (toks tokens.now))) }
 {
     if leads(Symbol::OpenParen, tokens, *at) {
         return unit(tokens, at, room);

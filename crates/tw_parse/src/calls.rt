@@ -5,13 +5,14 @@ ghost use Rattle.std.specs.Option.{option_map};
 ghost use Rattle.tw_syntax.specs.Names.{name_tree};
 ghost use Rattle.tw_syntax.specs.Terms.{bound_tree, rhs_tree};
 ghost use Rattle.tw_lex.specs.declared.symbol.Symbol.TheVariants as symbols;
-ghost use Rattle.tw_parse.specs.Steps.{toks};
-ghost use Rattle.tw_parse.specs.Steps.{Gives, all_at, leads, put_first};
-ghost use Rattle.tw_parse.specs.Reading.{named_bound_at, bound_at, call_bound_at, comma_name_at, names_at, args_at, call_at, leads_call};
+ghost use Rattle.tw_parse.specs.reading.Steps.{toks};
+ghost use Rattle.tw_parse.specs.reading.Steps.{Returns, all_at, leads, put_first};
+ghost use Rattle.tw_parse.specs.reading.Terms.{named_bound_at, bound_at, call_bound_at, comma_name_at, names_at, args_at, call_at, leads_call};
 
-use crate::stop::Stop;
+use crate::error::ParseError;
 use crate::take::{
-    leads, leads_name, leads_number, left, pass, take_mark, take_name, take_open, take_small,
+    leads, leads_name, leads_number, left, pass, take_bound_number, take_name, take_open,
+    take_symbol,
 };
 use bumpalo::collections::into_bump_slice;
 use tw_lex::{Symbol, Token};
@@ -19,51 +20,51 @@ use tw_syntax::{Bound, Name, Rhs};
 use tw_text::Arena;
 
 /// A bound that begins with a name.
-#[tactic(auto, unfolding(crate::specs::Reading::named_bound_at))]
-fn named_bound<'a>(tokens: &[Token<'a>], at: &mut usize) -> Result<Bound<'a>, Stop>
-    ensures { Gives (λ x. (bound_tree x, drop at.new (toks tokens.now))) result (named_bound_at (drop at.old (toks tokens.now))) }
+#[tactic(auto, unfolding(crate::specs::reading::Terms::named_bound_at))]
+fn named_bound<'a>(tokens: &[Token<'a>], at: &mut usize) -> Result<Bound<'a>, ParseError>
+    ensures { Returns (λ x. (bound_tree x, drop at.new (toks tokens.now))) result (named_bound_at (drop at.old (toks tokens.now))) }
 {
     let name = take_name(tokens, at)?;
     if leads(Symbol::Minus, tokens, *at) {
-        take_mark(Symbol::Minus, tokens, at)?;
-        let less = take_small(tokens, at)?;
+        take_symbol(Symbol::Minus, tokens, at)?;
+        let less = take_bound_number(tokens, at)?;
         return Ok(Bound::Less(name, less));
     }
     Ok(Bound::Same(name))
 }
 
 /// A bound.
-#[tactic(auto, unfolding(crate::specs::Reading::bound_at))]
-fn bound<'a>(tokens: &[Token<'a>], at: &mut usize) -> Result<Bound<'a>, Stop>
-    ensures { Gives (λ x. (bound_tree x, drop at.new (toks tokens.now))) result (bound_at (drop at.old (toks tokens.now))) }
+#[tactic(auto, unfolding(crate::specs::reading::Terms::bound_at))]
+fn bound<'a>(tokens: &[Token<'a>], at: &mut usize) -> Result<Bound<'a>, ParseError>
+    ensures { Returns (λ x. (bound_tree x, drop at.new (toks tokens.now))) result (bound_at (drop at.old (toks tokens.now))) }
 {
     if leads_number(tokens, *at) {
-        let number = take_small(tokens, at)?;
+        let number = take_bound_number(tokens, at)?;
         return Ok(Bound::Fixed(number));
     }
     named_bound(tokens, at)
 }
 
 /// The bound of a call in its brackets, where there is one.
-#[tactic(auto, unfolding(crate::specs::Reading::call_bound_at))]
-fn call_bound<'a>(tokens: &[Token<'a>], at: &mut usize) -> Result<Option<Bound<'a>>, Stop>
-    ensures { Gives (λ x. (option_map bound_tree x, drop at.new (toks tokens.now))) result (call_bound_at (drop at.old (toks tokens.now))) }
+#[tactic(auto, unfolding(crate::specs::reading::Terms::call_bound_at))]
+fn call_bound<'a>(tokens: &[Token<'a>], at: &mut usize) -> Result<Option<Bound<'a>>, ParseError>
+    ensures { Returns (λ x. (option_map bound_tree x, drop at.new (toks tokens.now))) result (call_bound_at (drop at.old (toks tokens.now))) }
 {
     if !leads(Symbol::OpenBracket, tokens, *at) {
         return Ok(None);
     }
-    take_mark(Symbol::OpenBracket, tokens, at)?;
+    take_symbol(Symbol::OpenBracket, tokens, at)?;
     let bound = bound(tokens, at)?;
-    take_mark(Symbol::CloseBracket, tokens, at)?;
+    take_symbol(Symbol::CloseBracket, tokens, at)?;
     Ok(Some(bound))
 }
 
 /// A comma and a name.
-#[tactic(auto, unfolding(crate::specs::Reading::comma_name_at))]
-fn comma_name<'a>(tokens: &[Token<'a>], at: &mut usize) -> Result<Name<'a>, Stop>
-    ensures { Gives (λ x. (name_tree x, drop at.new (toks tokens.now))) result (comma_name_at (drop at.old (toks tokens.now))) }
+#[tactic(auto, unfolding(crate::specs::reading::Terms::comma_name_at))]
+fn comma_name<'a>(tokens: &[Token<'a>], at: &mut usize) -> Result<Name<'a>, ParseError>
+    ensures { Returns (λ x. (name_tree x, drop at.new (toks tokens.now))) result (comma_name_at (drop at.old (toks tokens.now))) }
 {
-    take_mark(Symbol::Comma, tokens, at)?;
+    take_symbol(Symbol::Comma, tokens, at)?;
     take_name(tokens, at)
 }
 
@@ -73,8 +74,8 @@ fn more_names<'a>(
     first: Name<'a>,
     tokens: &[Token<'a>],
     at: &mut usize,
-) -> Result<&'a [Name<'a>], Stop>
-    ensures { Gives (λ x. (map name_tree x.now, drop at.new (toks tokens.now))) result (put_first (name_tree first.entry) (all_at (leads symbols.Comma) comma_name_at (drop at.old (toks tokens.now)))) }
+) -> Result<&'a [Name<'a>], ParseError>
+    ensures { Returns (λ x. (map name_tree x.now, drop at.new (toks tokens.now))) result (put_first (name_tree first.entry) (all_at (leads symbols.Comma) comma_name_at (drop at.old (toks tokens.now)))) }
 {
     let mut names = Vec::new(arena);
     names.push(first)?;
@@ -89,9 +90,13 @@ fn more_names<'a>(
 }
 
 /// Names with commas between them, or nothing.
-#[tactic(auto, unfolding(crate::specs::Reading::names_at))]
-fn names<'a>(arena: &'a Arena, tokens: &[Token<'a>], at: &mut usize) -> Result<&'a [Name<'a>], Stop>
-    ensures { Gives (λ x. (map name_tree x.now, drop at.new (toks tokens.now))) result (names_at (drop at.old (toks tokens.now))) }
+#[tactic(auto, unfolding(crate::specs::reading::Terms::names_at))]
+fn names<'a>(
+    arena: &'a Arena,
+    tokens: &[Token<'a>],
+    at: &mut usize,
+) -> Result<&'a [Name<'a>], ParseError>
+    ensures { Returns (λ x. (map name_tree x.now, drop at.new (toks tokens.now))) result (names_at (drop at.old (toks tokens.now))) }
 {
     if !leads_name(tokens, *at) {
         return Ok(&[]);
@@ -101,18 +106,18 @@ fn names<'a>(arena: &'a Arena, tokens: &[Token<'a>], at: &mut usize) -> Result<&
 }
 
 /// The arguments of a call.
-#[tactic(auto, unfolding(crate::specs::Reading::args_at))]
+#[tactic(auto, unfolding(crate::specs::reading::Terms::args_at))]
 fn args<'a>(
     arena: &'a Arena,
     tokens: &[Token<'a>],
     at: &mut usize,
     room: u32,
-) -> Result<&'a [Name<'a>], Stop>
-    ensures { Gives (λ x. (map name_tree x.now, drop at.new (toks tokens.now))) result (args_at room (drop at.old (toks tokens.now))) }
+) -> Result<&'a [Name<'a>], ParseError>
+    ensures { Returns (λ x. (map name_tree x.now, drop at.new (toks tokens.now))) result (args_at room (drop at.old (toks tokens.now))) }
 {
     take_open(Symbol::OpenParen, room, tokens, at)?;
     let names = names(arena, tokens, at)?;
-    take_mark(Symbol::CloseParen, tokens, at)?;
+    take_symbol(Symbol::CloseParen, tokens, at)?;
     Ok(names)
 }
 
@@ -127,14 +132,14 @@ pub fn leads_call(tokens: &[Token<'_>], at: usize) -> bool
 }
 
 /// A call, in which so many brackets may open.
-#[tactic(auto, unfolding(crate::specs::Reading::call_at))]
+#[tactic(auto, unfolding(crate::specs::reading::Terms::call_at))]
 pub fn call<'a>(
     arena: &'a Arena,
     tokens: &[Token<'a>],
     at: &mut usize,
     room: u32,
-) -> Result<Rhs<'a>, Stop>
-    ensures { Gives (λ x. (rhs_tree x, drop at.new (toks tokens.now))) result (call_at room (drop at.old (toks tokens.now))) }
+) -> Result<Rhs<'a>, ParseError>
+    ensures { Returns (λ x. (rhs_tree x, drop at.new (toks tokens.now))) result (call_at room (drop at.old (toks tokens.now))) }
 {
     let callee = take_name(tokens, at)?;
     let bound = call_bound(tokens, at)?;

@@ -2,13 +2,13 @@
 
 ghost use Rattle.std.specs.Prelude.{◌≡◌, suc, drop};
 ghost use Rattle.tw_syntax.specs.Terms.{atom_tree, expr_tree};
-ghost use Rattle.tw_parse.specs.Steps.{toks};
-ghost use Rattle.tw_parse.specs.Steps.{Gives};
-ghost use Rattle.tw_parse.specs.Reading.{op_of, op_at, not_at, two_at, paren_expr_at, op_expr_at, expr_at};
+ghost use Rattle.tw_parse.specs.reading.Steps.{toks};
+ghost use Rattle.tw_parse.specs.reading.Steps.{Returns};
+ghost use Rattle.tw_parse.specs.reading.Terms.{op_of, op_at, not_at, two_at, paren_expr_at, op_expr_at, expr_at};
 
 use crate::atoms::atom;
-use crate::stop::Stop;
-use crate::take::{leads, pass, place, take_mark, take_open};
+use crate::error::ParseError;
+use crate::take::{leads, pass, place, take_open, take_symbol};
 use tw_lex::{Symbol, Token};
 use tw_syntax::{Atom, AtomKind, Expr, ExprKind, OpKind};
 use tw_text::{Arena, Pos};
@@ -45,7 +45,7 @@ fn operator(tokens: &[Token<'_>], at: usize) -> Option<OpKind>
 }
 
 /// What stands behind the first atom of an expression: nothing, or an operator and an atom.
-#[tactic(auto, unfolding(crate::specs::Reading::op_at))]
+#[tactic(auto, unfolding(crate::specs::reading::Terms::op_at))]
 fn operation<'a>(
     arena: &'a Arena,
     place: Pos,
@@ -53,8 +53,8 @@ fn operation<'a>(
     tokens: &[Token<'a>],
     at: &mut usize,
     room: u32,
-) -> Result<Expr<'a>, Stop>
-    ensures { Gives (λ x. (expr_tree x, drop at.new (toks tokens.now))) result (op_at place (atom_tree left.entry) room (drop at.old (toks tokens.now))) }
+) -> Result<Expr<'a>, ParseError>
+    ensures { Returns (λ x. (expr_tree x, drop at.new (toks tokens.now))) result (op_at place (atom_tree left.entry) room (drop at.old (toks tokens.now))) }
 {
     match operator(tokens, *at) {
         None => Ok(Expr {
@@ -73,16 +73,16 @@ fn operation<'a>(
 }
 
 /// `not` and an atom.
-#[tactic(auto, unfolding(crate::specs::Reading::not_at))]
+#[tactic(auto, unfolding(crate::specs::reading::Terms::not_at))]
 fn negation<'a>(
     arena: &'a Arena,
     tokens: &[Token<'a>],
     at: &mut usize,
     room: u32,
-) -> Result<Expr<'a>, Stop>
-    ensures { Gives (λ x. (expr_tree x, drop at.new (toks tokens.now))) result (not_at room (drop at.old (toks tokens.now))) }
+) -> Result<Expr<'a>, ParseError>
+    ensures { Returns (λ x. (expr_tree x, drop at.new (toks tokens.now))) result (not_at room (drop at.old (toks tokens.now))) }
 {
-    let place = take_mark(Symbol::Not, tokens, at)?;
+    let place = take_symbol(Symbol::Not, tokens, at)?;
     let negated = atom(arena, tokens, at, room)?;
     Ok(Expr {
         at: place,
@@ -91,20 +91,20 @@ fn negation<'a>(
 }
 
 /// A pair of atoms, behind its `(`.
-#[tactic(auto, unfolding(crate::specs::Reading::two_at))]
+#[tactic(auto, unfolding(crate::specs::reading::Terms::two_at))]
 fn two<'a>(
     arena: &'a Arena,
     place: Pos,
     tokens: &[Token<'a>],
     at: &mut usize,
     room: u32,
-) -> Result<Expr<'a>, Stop>
-    ensures { Gives (λ x. (expr_tree x, drop at.new (toks tokens.now))) result (two_at place (suc room) (drop at.old (toks tokens.now))) }
+) -> Result<Expr<'a>, ParseError>
+    ensures { Returns (λ x. (expr_tree x, drop at.new (toks tokens.now))) result (two_at place (suc room) (drop at.old (toks tokens.now))) }
 {
     let first = atom(arena, tokens, at, room)?;
-    take_mark(Symbol::Comma, tokens, at)?;
+    take_symbol(Symbol::Comma, tokens, at)?;
     let second = atom(arena, tokens, at, room)?;
-    take_mark(Symbol::CloseParen, tokens, at)?;
+    take_symbol(Symbol::CloseParen, tokens, at)?;
     Ok(Expr {
         at: place,
         kind: ExprKind::Two(first, second),
@@ -112,18 +112,18 @@ fn two<'a>(
 }
 
 /// An expression that begins with `(`.
-#[tactic(auto, unfolding(crate::specs::Reading::paren_expr_at))]
+#[tactic(auto, unfolding(crate::specs::reading::Terms::paren_expr_at))]
 fn paren<'a>(
     arena: &'a Arena,
     tokens: &[Token<'a>],
     at: &mut usize,
     room: u32,
-) -> Result<Expr<'a>, Stop>
-    ensures { Gives (λ x. (expr_tree x, drop at.new (toks tokens.now))) result (paren_expr_at room (drop at.old (toks tokens.now))) }
+) -> Result<Expr<'a>, ParseError>
+    ensures { Returns (λ x. (expr_tree x, drop at.new (toks tokens.now))) result (paren_expr_at room (drop at.old (toks tokens.now))) }
 {
     let place = take_open(Symbol::OpenParen, room, tokens, at)?;
     if leads(Symbol::CloseParen, tokens, *at) {
-        take_mark(Symbol::CloseParen, tokens, at)?;
+        take_symbol(Symbol::CloseParen, tokens, at)?;
         let left = Atom {
             at: place,
             kind: AtomKind::Unit,
@@ -134,14 +134,14 @@ fn paren<'a>(
 }
 
 /// An atom, or two with an operator.
-#[tactic(auto, unfolding(crate::specs::Reading::op_expr_at))]
+#[tactic(auto, unfolding(crate::specs::reading::Terms::op_expr_at))]
 fn atoms<'a>(
     arena: &'a Arena,
     tokens: &[Token<'a>],
     at: &mut usize,
     room: u32,
-) -> Result<Expr<'a>, Stop>
-    ensures { Gives (λ x. (expr_tree x, drop at.new (toks tokens.now))) result (op_expr_at room (drop at.old (toks tokens.now))) }
+) -> Result<Expr<'a>, ParseError>
+    ensures { Returns (λ x. (expr_tree x, drop at.new (toks tokens.now))) result (op_expr_at room (drop at.old (toks tokens.now))) }
 {
     let place = place(tokens, *at)?;
     let left = atom(arena, tokens, at, room)?;
@@ -149,14 +149,14 @@ fn atoms<'a>(
 }
 
 /// An expression, in which so many brackets may open.
-#[tactic(auto, unfolding(crate::specs::Reading::expr_at))]
+#[tactic(auto, unfolding(crate::specs::reading::Terms::expr_at))]
 pub fn expr<'a>(
     arena: &'a Arena,
     tokens: &[Token<'a>],
     at: &mut usize,
     room: u32,
-) -> Result<Expr<'a>, Stop>
-    ensures { Gives (λ x. (expr_tree x, drop at.new (toks tokens.now))) result (expr_at room (drop at.old (toks tokens.now))) }
+) -> Result<Expr<'a>, ParseError>
+    ensures { Returns (λ x. (expr_tree x, drop at.new (toks tokens.now))) result (expr_at room (drop at.old (toks tokens.now))) }
 {
     if leads(Symbol::Not, tokens, *at) {
         return negation(arena, tokens, at, room);

@@ -4,15 +4,15 @@
 
 mod atoms;
 mod calls;
+mod error;
 mod expressions;
 mod functions;
 mod parsing;
 mod paths;
 mod programs;
-mod rights;
+mod right_sides;
 mod simple;
 mod statements;
-mod stop;
 mod take;
 #[cfg(test)]
 mod tests;

@@ -4,18 +4,19 @@ ghost use Rattle.std.specs.Prelude.{◌≡◌, ◌<◌, length, MatchResult, IfO
 ghost use Rattle.std.specs.Str.{chars, IsUtf8};
 ghost use Rattle.tw_text.specs.declared.refusal.Fault.TheVariants as fault;
 ghost use Rattle.tw_syntax.specs.Programs.{ProgramTree, program_tree};
-ghost use Rattle.tw_parse.specs.declared.stop.Stop.TheVariants as stop;
-ghost use Rattle.tw_parse.specs.Steps.{toks};
+ghost use Rattle.tw_parse.specs.declared.error.ParseError.TheVariants as error;
+ghost use Rattle.tw_parse.specs.reading.Steps.{toks};
 ghost use Rattle.tw_parse.specs.Sources.{IsSource, IsRefused};
-ghost use Rattle.tw_parse.specs.Parsed.{place_left, refusal_of, end_of, fault_of, IsParsed, IsFault, IsNoTextFault};
+ghost use Rattle.tw_parse.specs.Refusals.{place_left, refusal_of, end_of};
+ghost use Rattle.tw_parse.specs.reading.Outcomes.{fault_of, IsParsed, IsFault, IsNoTextFault};
 
+use crate::error::{ParseError, Rejection};
 use crate::programs::program;
-use crate::stop::{Halt, Stop};
 use crate::take::first;
 use std::alloc::Global;
 use tw_lex::{Token, tokens};
 use tw_syntax::Program;
-use tw_text::{Arena, Counted, Fault, Pos, Refusal, Rule, place_after};
+use tw_text::{Arena, Counted, Fault, NESTING_LIMIT, Pos, Refusal, Rule, place_after};
 
 /// The place of the first of so many last tokens, or the place behind the text.
 fn place_of(tokens: &[Token<'_>], left: usize, text: &str) -> Pos
@@ -29,34 +30,34 @@ fn place_of(tokens: &[Token<'_>], left: usize, text: &str) -> Pos
 }
 
 /// The refusal of a text with these tokens.
-fn refusal(halt: Halt, tokens: &[Token<'_>], text: &str) -> Refusal
+fn refusal(halt: Rejection, tokens: &[Token<'_>], text: &str) -> Refusal
     requires { length text.now < 4294967295 }
     ensures { result ≡ refusal_of halt (toks tokens.now) (end_of text.now) }
 {
     match halt {
-        Halt::Syntax(left) => Refusal {
+        Rejection::Syntax(left) => Refusal {
             rule: Rule::Syntax,
             at: place_of(tokens, left, text),
             found: 0,
             limit: 0,
         },
-        Halt::Nesting(left) => Refusal {
+        Rejection::Nesting(left) => Refusal {
             rule: Rule::Limit(Counted::Nesting),
             at: place_of(tokens, left, text),
-            found: 65,
-            limit: 64,
+            found: NESTING_LIMIT + 1,
+            limit: NESTING_LIMIT,
         },
     }
 }
 
 /// The fault for a stop over these tokens.
-fn fault(stop: Stop, tokens: &[Token<'_>], text: &str) -> Fault
+fn fault(stop: ParseError, tokens: &[Token<'_>], text: &str) -> Fault
     requires { length text.now < 4294967295 }
     ensures { result ≡ fault_of stop (toks tokens.now) (end_of text.now) }
 {
     match stop {
-        Stop::Memory => Fault::Memory,
-        Stop::Halt(halt) => Fault::Refused(refusal(halt, tokens, text)),
+        ParseError::Memory => Fault::Memory,
+        ParseError::Rejection(halt) => Fault::Refused(refusal(halt, tokens, text)),
     }
 }
 

@@ -3,29 +3,29 @@
 ghost use Rattle.std.specs.Prelude.{◌≡◌, drop};
 ghost use Rattle.tw_syntax.specs.Names.{path_tree};
 ghost use Rattle.tw_lex.specs.declared.symbol.Symbol.TheVariants as symbols;
-ghost use Rattle.tw_parse.specs.Steps.{toks};
-ghost use Rattle.tw_parse.specs.Steps.{Gives, all_at, leads};
-ghost use Rattle.tw_parse.specs.Reading.{step_at, path_at};
+ghost use Rattle.tw_parse.specs.reading.Steps.{toks};
+ghost use Rattle.tw_parse.specs.reading.Steps.{Returns, all_at, leads};
+ghost use Rattle.tw_parse.specs.reading.Terms.{step_at, path_at};
 
-use crate::stop::Stop;
-use crate::take::{leads, left, take_half, take_mark, take_name};
+use crate::error::ParseError;
+use crate::take::{leads, left, take_component, take_name, take_symbol};
 use bumpalo::collections::into_bump_slice;
 use tw_lex::{Symbol, Token};
 use tw_syntax::Path;
 use tw_text::Arena;
 
 /// A step to a half of a pair.
-#[tactic(auto, unfolding(crate::specs::Reading::step_at))]
-fn step(tokens: &[Token<'_>], at: &mut usize) -> Result<u8, Stop>
-    ensures { Gives (λ half. (half, drop at.new (toks tokens.now))) result (step_at (drop at.old (toks tokens.now))) }
+#[tactic(auto, unfolding(crate::specs::reading::Terms::step_at))]
+fn step(tokens: &[Token<'_>], at: &mut usize) -> Result<u8, ParseError>
+    ensures { Returns (λ half. (half, drop at.new (toks tokens.now))) result (step_at (drop at.old (toks tokens.now))) }
 {
-    take_mark(Symbol::Dot, tokens, at)?;
-    take_half(tokens, at)
+    take_symbol(Symbol::Dot, tokens, at)?;
+    take_component(tokens, at)
 }
 
 /// All steps that stand here.
-fn steps<'a>(arena: &'a Arena, tokens: &[Token<'_>], at: &mut usize) -> Result<&'a [u8], Stop>
-    ensures { Gives (λ x. (x.now, drop at.new (toks tokens.now))) result (all_at (leads symbols.Dot) step_at (drop at.old (toks tokens.now))) }
+fn steps<'a>(arena: &'a Arena, tokens: &[Token<'_>], at: &mut usize) -> Result<&'a [u8], ParseError>
+    ensures { Returns (λ x. (x.now, drop at.new (toks tokens.now))) result (all_at (leads symbols.Dot) step_at (drop at.old (toks tokens.now))) }
 {
     let count = left(tokens, *at);
     let mut steps = Vec::new(arena);
@@ -39,9 +39,13 @@ fn steps<'a>(arena: &'a Arena, tokens: &[Token<'_>], at: &mut usize) -> Result<&
 }
 
 /// A path.
-#[tactic(auto, unfolding(crate::specs::Reading::path_at))]
-pub fn path<'a>(arena: &'a Arena, tokens: &[Token<'a>], at: &mut usize) -> Result<Path<'a>, Stop>
-    ensures { Gives (λ x. (path_tree x, drop at.new (toks tokens.now))) result (path_at (drop at.old (toks tokens.now))) }
+#[tactic(auto, unfolding(crate::specs::reading::Terms::path_at))]
+pub fn path<'a>(
+    arena: &'a Arena,
+    tokens: &[Token<'a>],
+    at: &mut usize,
+) -> Result<Path<'a>, ParseError>
+    ensures { Returns (λ x. (path_tree x, drop at.new (toks tokens.now))) result (path_at (drop at.old (toks tokens.now))) }
 {
     let root = take_name(tokens, at)?;
     let steps = steps(arena, tokens, at)?;

@@ -3,60 +3,60 @@
 ghost use Rattle.std.specs.Prelude.{◌≡◌, suc, drop, map};
 ghost use Rattle.tw_syntax.specs.Types.{written_tree};
 ghost use Rattle.tw_syntax.specs.Programs.{alias_tree, decl_tree, program_tree};
-ghost use Rattle.tw_parse.specs.Steps.{toks};
-ghost use Rattle.tw_parse.specs.Steps.{Gives, all_at, put_first};
-ghost use Rattle.tw_parse.specs.ReadingStatements.{type_end_at, alias_at, decl_at, is_more, program_at, whole_at};
+ghost use Rattle.tw_parse.specs.reading.Steps.{toks};
+ghost use Rattle.tw_parse.specs.reading.Steps.{Returns, all_at, put_first};
+ghost use Rattle.tw_parse.specs.reading.Statements.{type_end_at, alias_at, decl_at, is_more, program_at, whole_at};
 
+use crate::error::ParseError;
 use crate::functions::fun;
-use crate::stop::Stop;
-use crate::take::{first, leads, left, take_mark, take_name};
+use crate::take::{first, leads, left, take_name, take_symbol};
 use crate::types::written;
 use bumpalo::collections::into_bump_slice;
 use tw_lex::{Symbol, Token};
 use tw_syntax::{Alias, Decl, Program, Written, build_program};
-use tw_text::Arena;
+use tw_text::{Arena, NESTING_LIMIT};
 
 /// A type and a semicolon.
-#[tactic(auto, unfolding(crate::specs::ReadingStatements::type_end_at))]
+#[tactic(auto, unfolding(crate::specs::reading::Statements::type_end_at))]
 fn type_end<'a>(
     arena: &'a Arena,
     tokens: &[Token<'a>],
     at: &mut usize,
     room: u32,
-) -> Result<&'a Written<'a>, Stop>
-    ensures { Gives (λ x. (written_tree x.now, drop at.new (toks tokens.now))) result (type_end_at room (drop at.old (toks tokens.now))) }
+) -> Result<&'a Written<'a>, ParseError>
+    ensures { Returns (λ x. (written_tree x.now, drop at.new (toks tokens.now))) result (type_end_at room (drop at.old (toks tokens.now))) }
 {
     let body = written(arena, tokens, at, room)?;
-    take_mark(Symbol::Semicolon, tokens, at)?;
+    take_symbol(Symbol::Semicolon, tokens, at)?;
     Ok(body)
 }
 
 /// A name for a type.
-#[tactic(auto, unfolding(crate::specs::ReadingStatements::alias_at))]
+#[tactic(auto, unfolding(crate::specs::reading::Statements::alias_at))]
 fn alias<'a>(
     arena: &'a Arena,
     tokens: &[Token<'a>],
     at: &mut usize,
     room: u32,
-) -> Result<Alias<'a>, Stop>
-    ensures { Gives (λ x. (alias_tree x, drop at.new (toks tokens.now))) result (alias_at room (drop at.old (toks tokens.now))) }
+) -> Result<Alias<'a>, ParseError>
+    ensures { Returns (λ x. (alias_tree x, drop at.new (toks tokens.now))) result (alias_at room (drop at.old (toks tokens.now))) }
 {
-    take_mark(Symbol::Type, tokens, at)?;
+    take_symbol(Symbol::Type, tokens, at)?;
     let name = take_name(tokens, at)?;
-    take_mark(Symbol::Define, tokens, at)?;
+    take_symbol(Symbol::Define, tokens, at)?;
     let body = type_end(arena, tokens, at, room)?;
     Ok(Alias { name, body })
 }
 
 /// A declaration, in which so many brackets may open.
-#[tactic(auto, unfolding(crate::specs::ReadingStatements::decl_at))]
+#[tactic(auto, unfolding(crate::specs::reading::Statements::decl_at))]
 fn decl<'a>(
     arena: &'a Arena,
     tokens: &[Token<'a>],
     at: &mut usize,
     room: u32,
-) -> Result<Decl<'a>, Stop>
-    ensures { Gives (λ x. (decl_tree x, drop at.new (toks tokens.now))) result (decl_at room (drop at.old (toks tokens.now))) }
+) -> Result<Decl<'a>, ParseError>
+    ensures { Returns (λ x. (decl_tree x, drop at.new (toks tokens.now))) result (decl_at room (drop at.old (toks tokens.now))) }
 {
     if leads(Symbol::Type, tokens, *at) {
         let alias = alias(arena, tokens, at, room)?;
@@ -80,8 +80,8 @@ fn more_decls<'a>(
     tokens: &[Token<'a>],
     at: &mut usize,
     room: u32,
-) -> Result<&'a [Decl<'a>], Stop>
-    ensures { Gives (λ x. (map decl_tree x.now, drop at.new (toks tokens.now))) result (put_first (decl_tree first.entry) (all_at is_more (decl_at room) (drop at.old (toks tokens.now)))) }
+) -> Result<&'a [Decl<'a>], ParseError>
+    ensures { Returns (λ x. (map decl_tree x.now, drop at.new (toks tokens.now))) result (put_first (decl_tree first.entry) (all_at is_more (decl_at room) (drop at.old (toks tokens.now)))) }
 {
     let mut decls = Vec::new(arena);
     decls.push(first)?;
@@ -96,13 +96,13 @@ fn more_decls<'a>(
 }
 
 /// A program, in which so many brackets may open.
-#[tactic(auto, unfolding(crate::specs::ReadingStatements::program_at))]
+#[tactic(auto, unfolding(crate::specs::reading::Statements::program_at))]
 fn program_in<'a>(
     arena: &'a Arena,
     tokens: &[Token<'a>],
     room: u32,
-) -> Result<&'a Program<'a>, Stop>
-    ensures { Gives (λ x. program_tree x.now) result (program_at room (toks tokens.now)) }
+) -> Result<&'a Program<'a>, ParseError>
+    ensures { Returns (λ x. program_tree x.now) result (program_at room (toks tokens.now)) }
 {
     let mut at = 0;
     let first = decl(arena, tokens, &mut at, room)?;
@@ -110,9 +110,9 @@ fn program_in<'a>(
     Ok(build_program(arena, decls)?)
 }
 
-/// A program, in which 64 brackets may be open at one place.
-pub fn program<'a>(arena: &'a Arena, tokens: &[Token<'a>]) -> Result<&'a Program<'a>, Stop>
-    ensures { Gives (λ x. program_tree x.now) result (whole_at (toks tokens.now)) }
+/// A program, in which brackets may be open up to their limit.
+pub fn program<'a>(arena: &'a Arena, tokens: &[Token<'a>]) -> Result<&'a Program<'a>, ParseError>
+    ensures { Returns (λ x. program_tree x.now) result (whole_at (toks tokens.now)) }
 {
-    program_in(arena, tokens, 64)
+    program_in(arena, tokens, NESTING_LIMIT as u32)
 }

@@ -4,57 +4,57 @@ ghost use Rattle.std.specs.Prelude.{◌≡◌, drop};
 ghost use Rattle.tw_syntax.specs.Names.{path_tree};
 ghost use Rattle.tw_syntax.specs.Terms.{rhs_tree};
 ghost use Rattle.tw_syntax.specs.Statements.{stmt_tree};
-ghost use Rattle.tw_parse.specs.Steps.{toks};
-ghost use Rattle.tw_parse.specs.Steps.{Gives};
-ghost use Rattle.tw_parse.specs.ReadingStatements.{direction_at, rhs_end_at, let_at, exchange_at, swap_at, mem_swap_at, skip_at, plain_stmt_at};
+ghost use Rattle.tw_parse.specs.reading.Steps.{toks};
+ghost use Rattle.tw_parse.specs.reading.Steps.{Returns};
+ghost use Rattle.tw_parse.specs.reading.Statements.{direction_at, rhs_end_at, let_at, exchange_at, swap_at, mem_swap_at, skip_at, plain_stmt_at};
 
+use crate::error::ParseError;
 use crate::paths::path;
-use crate::rights::rhs;
-use crate::stop::Stop;
-use crate::take::{leads, take_mark, take_name};
+use crate::right_sides::rhs;
+use crate::take::{leads, take_name, take_symbol};
 use tw_lex::{Symbol, Token};
 use tw_syntax::{Path, Rhs, Stmt, StmtKind};
 use tw_text::Arena;
 
 /// `<-`, which is `true`, or `->`, which is `false`.
-#[tactic(auto, unfolding(crate::specs::ReadingStatements::direction_at))]
-fn direction(tokens: &[Token<'_>], at: &mut usize) -> Result<bool, Stop>
-    ensures { Gives (λ x. (x, drop at.new (toks tokens.now))) result (direction_at (drop at.old (toks tokens.now))) }
+#[tactic(auto, unfolding(crate::specs::reading::Statements::direction_at))]
+fn direction(tokens: &[Token<'_>], at: &mut usize) -> Result<bool, ParseError>
+    ensures { Returns (λ x. (x, drop at.new (toks tokens.now))) result (direction_at (drop at.old (toks tokens.now))) }
 {
     if leads(Symbol::Assign, tokens, *at) {
-        take_mark(Symbol::Assign, tokens, at)?;
+        take_symbol(Symbol::Assign, tokens, at)?;
         return Ok(true);
     }
-    take_mark(Symbol::Arrow, tokens, at)?;
+    take_symbol(Symbol::Arrow, tokens, at)?;
     Ok(false)
 }
 
 /// A right side and a semicolon.
-#[tactic(auto, unfolding(crate::specs::ReadingStatements::rhs_end_at))]
+#[tactic(auto, unfolding(crate::specs::reading::Statements::rhs_end_at))]
 fn rhs_end<'a>(
     arena: &'a Arena,
     tokens: &[Token<'a>],
     at: &mut usize,
     room: u32,
-) -> Result<Rhs<'a>, Stop>
-    ensures { Gives (λ x. (rhs_tree x, drop at.new (toks tokens.now))) result (rhs_end_at room (drop at.old (toks tokens.now))) }
+) -> Result<Rhs<'a>, ParseError>
+    ensures { Returns (λ x. (rhs_tree x, drop at.new (toks tokens.now))) result (rhs_end_at room (drop at.old (toks tokens.now))) }
 {
     let rhs = rhs(arena, tokens, at, room)?;
-    take_mark(Symbol::Semicolon, tokens, at)?;
+    take_symbol(Symbol::Semicolon, tokens, at)?;
     Ok(rhs)
 }
 
 /// A `let`.
-#[tactic(auto, unfolding(crate::specs::ReadingStatements::let_at))]
+#[tactic(auto, unfolding(crate::specs::reading::Statements::let_at))]
 fn let_stmt<'a>(
     arena: &'a Arena,
     tokens: &[Token<'a>],
     at: &mut usize,
     room: u32,
-) -> Result<Stmt<'a>, Stop>
-    ensures { Gives (λ x. (stmt_tree x, drop at.new (toks tokens.now))) result (let_at room (drop at.old (toks tokens.now))) }
+) -> Result<Stmt<'a>, ParseError>
+    ensures { Returns (λ x. (stmt_tree x, drop at.new (toks tokens.now))) result (let_at room (drop at.old (toks tokens.now))) }
 {
-    let place = take_mark(Symbol::Let, tokens, at)?;
+    let place = take_symbol(Symbol::Let, tokens, at)?;
     let target = take_name(tokens, at)?;
     let forward = direction(tokens, at)?;
     let rhs = rhs_end(arena, tokens, at, room)?;
@@ -69,20 +69,24 @@ fn let_stmt<'a>(
 }
 
 /// `<->`, a path and a semicolon.
-#[tactic(auto, unfolding(crate::specs::ReadingStatements::exchange_at))]
-fn exchange<'a>(arena: &'a Arena, tokens: &[Token<'a>], at: &mut usize) -> Result<Path<'a>, Stop>
-    ensures { Gives (λ x. (path_tree x, drop at.new (toks tokens.now))) result (exchange_at (drop at.old (toks tokens.now))) }
+#[tactic(auto, unfolding(crate::specs::reading::Statements::exchange_at))]
+fn exchange<'a>(
+    arena: &'a Arena,
+    tokens: &[Token<'a>],
+    at: &mut usize,
+) -> Result<Path<'a>, ParseError>
+    ensures { Returns (λ x. (path_tree x, drop at.new (toks tokens.now))) result (exchange_at (drop at.old (toks tokens.now))) }
 {
-    take_mark(Symbol::Swap, tokens, at)?;
+    take_symbol(Symbol::Swap, tokens, at)?;
     let path = path(arena, tokens, at)?;
-    take_mark(Symbol::Semicolon, tokens, at)?;
+    take_symbol(Symbol::Semicolon, tokens, at)?;
     Ok(path)
 }
 
 /// A swap of two paths.
-#[tactic(auto, unfolding(crate::specs::ReadingStatements::swap_at))]
-fn swap<'a>(arena: &'a Arena, tokens: &[Token<'a>], at: &mut usize) -> Result<Stmt<'a>, Stop>
-    ensures { Gives (λ x. (stmt_tree x, drop at.new (toks tokens.now))) result (swap_at (drop at.old (toks tokens.now))) }
+#[tactic(auto, unfolding(crate::specs::reading::Statements::swap_at))]
+fn swap<'a>(arena: &'a Arena, tokens: &[Token<'a>], at: &mut usize) -> Result<Stmt<'a>, ParseError>
+    ensures { Returns (λ x. (stmt_tree x, drop at.new (toks tokens.now))) result (swap_at (drop at.old (toks tokens.now))) }
 {
     let left = path(arena, tokens, at)?;
     let right = exchange(arena, tokens, at)?;
@@ -93,11 +97,15 @@ fn swap<'a>(arena: &'a Arena, tokens: &[Token<'a>], at: &mut usize) -> Result<St
 }
 
 /// A swap with the value that a pointer points to.
-#[tactic(auto, unfolding(crate::specs::ReadingStatements::mem_swap_at))]
-fn mem_swap<'a>(arena: &'a Arena, tokens: &[Token<'a>], at: &mut usize) -> Result<Stmt<'a>, Stop>
-    ensures { Gives (λ x. (stmt_tree x, drop at.new (toks tokens.now))) result (mem_swap_at (drop at.old (toks tokens.now))) }
+#[tactic(auto, unfolding(crate::specs::reading::Statements::mem_swap_at))]
+fn mem_swap<'a>(
+    arena: &'a Arena,
+    tokens: &[Token<'a>],
+    at: &mut usize,
+) -> Result<Stmt<'a>, ParseError>
+    ensures { Returns (λ x. (stmt_tree x, drop at.new (toks tokens.now))) result (mem_swap_at (drop at.old (toks tokens.now))) }
 {
-    let place = take_mark(Symbol::Star, tokens, at)?;
+    let place = take_symbol(Symbol::Star, tokens, at)?;
     let pointer = path(arena, tokens, at)?;
     let value = exchange(arena, tokens, at)?;
     Ok(Stmt {
@@ -107,12 +115,12 @@ fn mem_swap<'a>(arena: &'a Arena, tokens: &[Token<'a>], at: &mut usize) -> Resul
 }
 
 /// `skip` and a semicolon.
-#[tactic(auto, unfolding(crate::specs::ReadingStatements::skip_at))]
-fn skip<'a>(tokens: &[Token<'a>], at: &mut usize) -> Result<Stmt<'a>, Stop>
-    ensures { Gives (λ x. (stmt_tree x, drop at.new (toks tokens.now))) result (skip_at (drop at.old (toks tokens.now))) }
+#[tactic(auto, unfolding(crate::specs::reading::Statements::skip_at))]
+fn skip<'a>(tokens: &[Token<'a>], at: &mut usize) -> Result<Stmt<'a>, ParseError>
+    ensures { Returns (λ x. (stmt_tree x, drop at.new (toks tokens.now))) result (skip_at (drop at.old (toks tokens.now))) }
 {
-    let place = take_mark(Symbol::Skip, tokens, at)?;
-    take_mark(Symbol::Semicolon, tokens, at)?;
+    let place = take_symbol(Symbol::Skip, tokens, at)?;
+    take_symbol(Symbol::Semicolon, tokens, at)?;
     Ok(Stmt {
         at: place,
         kind: StmtKind::Skip,
@@ -120,14 +128,14 @@ fn skip<'a>(tokens: &[Token<'a>], at: &mut usize) -> Result<Stmt<'a>, Stop>
 }
 
 /// A statement that holds no others, in which so many brackets may open.
-#[tactic(auto, unfolding(crate::specs::ReadingStatements::plain_stmt_at))]
+#[tactic(auto, unfolding(crate::specs::reading::Statements::plain_stmt_at))]
 pub fn plain_stmt<'a>(
     arena: &'a Arena,
     tokens: &[Token<'a>],
     at: &mut usize,
     room: u32,
-) -> Result<Stmt<'a>, Stop>
-    ensures { Gives (λ x. (stmt_tree x, drop at.new (toks tokens.now))) result (plain_stmt_at room (drop at.old (toks tokens.now))) }
+) -> Result<Stmt<'a>, ParseError>
+    ensures { Returns (λ x. (stmt_tree x, drop at.new (toks tokens.now))) result (plain_stmt_at room (drop at.old (toks tokens.now))) }
 {
     if leads(Symbol::Let, tokens, *at) {
         return let_stmt(arena, tokens, at, room);

@@ -2,14 +2,14 @@
 
 ghost use Rattle.std.specs.Prelude.{◌≡◌, suc, drop, map};
 ghost use Rattle.tw_syntax.specs.Statements.{stmt_tree, else_tree};
-ghost use Rattle.tw_parse.specs.Steps.{toks};
-ghost use Rattle.tw_parse.specs.Steps.{Gives, all_at};
-ghost use Rattle.tw_parse.specs.ReadingStatements.{goes_before, block_with, block_stmt_with, else_with, if_with, with_with, stmt_at};
+ghost use Rattle.tw_parse.specs.reading.Steps.{toks};
+ghost use Rattle.tw_parse.specs.reading.Steps.{Returns, all_at};
+ghost use Rattle.tw_parse.specs.reading.Statements.{goes_before, block_with, block_stmt_with, else_with, if_with, with_with, stmt_at};
 
+use crate::error::ParseError;
 use crate::paths::path;
 use crate::simple::plain_stmt;
-use crate::stop::Stop;
-use crate::take::{leads, left, place, take_mark, take_open};
+use crate::take::{leads, left, place, take_open, take_symbol};
 use bumpalo::collections::into_bump_slice;
 use tw_lex::{Symbol, Token};
 use tw_syntax::{No, Stmt, block as block_of, choice, otherwise, with_block};
@@ -23,8 +23,8 @@ pub fn stmts<'a>(
     tokens: &[Token<'a>],
     at: &mut usize,
     room: u32,
-) -> Result<&'a [Stmt<'a>], Stop>
-    ensures { Gives (λ x. (map stmt_tree x.now, drop at.new (toks tokens.now))) result (all_at (goes_before end) (stmt_at (suc room)) (drop at.old (toks tokens.now))) }
+) -> Result<&'a [Stmt<'a>], ParseError>
+    ensures { Returns (λ x. (map stmt_tree x.now, drop at.new (toks tokens.now))) result (all_at (goes_before end) (stmt_at (suc room)) (drop at.old (toks tokens.now))) }
 {
     let count = left(tokens, *at);
     let mut stmts = Vec::new(arena);
@@ -39,31 +39,31 @@ pub fn stmts<'a>(
 
 /// Statements in braces.
 #[cycle(statements)]
-#[tactic(auto, unfolding(crate::specs::ReadingStatements::block_with))]
+#[tactic(auto, unfolding(crate::specs::reading::Statements::block_with))]
 fn block<'a>(
     arena: &'a Arena,
     tokens: &[Token<'a>],
     at: &mut usize,
     room: u32,
-) -> Result<&'a [Stmt<'a>], Stop>
-    ensures { Gives (λ x. (map stmt_tree x.now, drop at.new (toks tokens.now))) result (block_with (stmt_at room) room (drop at.old (toks tokens.now))) }
+) -> Result<&'a [Stmt<'a>], ParseError>
+    ensures { Returns (λ x. (map stmt_tree x.now, drop at.new (toks tokens.now))) result (block_with (stmt_at room) room (drop at.old (toks tokens.now))) }
 {
     take_open(Symbol::OpenBrace, room, tokens, at)?;
     let stmts = stmts(arena, Symbol::CloseBrace, tokens, at, room - 1)?;
-    take_mark(Symbol::CloseBrace, tokens, at)?;
+    take_symbol(Symbol::CloseBrace, tokens, at)?;
     Ok(stmts)
 }
 
 /// A block as a statement.
 #[cycle(statements)]
-#[tactic(auto, using(crate::proofs::code::Chains::chains), unfolding(crate::specs::ReadingStatements::block_stmt_with))]
+#[tactic(auto, using(crate::proofs::code::Chains::chains), unfolding(crate::specs::reading::Statements::block_stmt_with))]
 fn block_stmt<'a>(
     arena: &'a Arena,
     tokens: &[Token<'a>],
     at: &mut usize,
     room: u32,
-) -> Result<Stmt<'a>, Stop>
-    ensures { Gives (λ x. (stmt_tree x, drop at.new (toks tokens.now))) result (block_stmt_with (stmt_at room) room (drop at.old (toks tokens.now))) }
+) -> Result<Stmt<'a>, ParseError>
+    ensures { Returns (λ x. (stmt_tree x, drop at.new (toks tokens.now))) result (block_stmt_with (stmt_at room) room (drop at.old (toks tokens.now))) }
 {
     let place = place(tokens, *at)?;
     let stmts = block(arena, tokens, at, room)?;
@@ -72,17 +72,17 @@ fn block_stmt<'a>(
 
 /// An `else` and its block, where there is one.
 #[cycle(statements)]
-#[tactic(auto, using(crate::proofs::code::Chains::chains), unfolding(crate::specs::ReadingStatements::else_with))]
+#[tactic(auto, using(crate::proofs::code::Chains::chains), unfolding(crate::specs::reading::Statements::else_with))]
 fn other<'a>(
     arena: &'a Arena,
     tokens: &[Token<'a>],
     at: &mut usize,
     room: u32,
-) -> Result<Option<No<'a>>, Stop>
-    ensures { Gives (λ x. (else_tree x, drop at.new (toks tokens.now))) result (else_with (stmt_at room) room (drop at.old (toks tokens.now))) }
+) -> Result<Option<No<'a>>, ParseError>
+    ensures { Returns (λ x. (else_tree x, drop at.new (toks tokens.now))) result (else_with (stmt_at room) room (drop at.old (toks tokens.now))) }
 {
     if leads(Symbol::Else, tokens, *at) {
-        let place = take_mark(Symbol::Else, tokens, at)?;
+        let place = take_symbol(Symbol::Else, tokens, at)?;
         let stmts = block(arena, tokens, at, room)?;
         return Ok(Some(otherwise(place, stmts)));
     }
@@ -91,16 +91,16 @@ fn other<'a>(
 
 /// An `if`.
 #[cycle(statements)]
-#[tactic(auto, using(crate::proofs::code::Chains::chains), unfolding(crate::specs::ReadingStatements::if_with))]
+#[tactic(auto, using(crate::proofs::code::Chains::chains), unfolding(crate::specs::reading::Statements::if_with))]
 fn if_stmt<'a>(
     arena: &'a Arena,
     tokens: &[Token<'a>],
     at: &mut usize,
     room: u32,
-) -> Result<Stmt<'a>, Stop>
-    ensures { Gives (λ x. (stmt_tree x, drop at.new (toks tokens.now))) result (if_with (stmt_at room) room (drop at.old (toks tokens.now))) }
+) -> Result<Stmt<'a>, ParseError>
+    ensures { Returns (λ x. (stmt_tree x, drop at.new (toks tokens.now))) result (if_with (stmt_at room) room (drop at.old (toks tokens.now))) }
 {
-    let place = take_mark(Symbol::If, tokens, at)?;
+    let place = take_symbol(Symbol::If, tokens, at)?;
     let cond = path(arena, tokens, at)?;
     let body = block(arena, tokens, at, room)?;
     let other = other(arena, tokens, at, room)?;
@@ -109,32 +109,32 @@ fn if_stmt<'a>(
 
 /// A `with`.
 #[cycle(statements)]
-#[tactic(auto, using(crate::proofs::code::Chains::chains), unfolding(crate::specs::ReadingStatements::with_with))]
+#[tactic(auto, using(crate::proofs::code::Chains::chains), unfolding(crate::specs::reading::Statements::with_with))]
 fn with_stmt<'a>(
     arena: &'a Arena,
     tokens: &[Token<'a>],
     at: &mut usize,
     room: u32,
-) -> Result<Stmt<'a>, Stop>
-    ensures { Gives (λ x. (stmt_tree x, drop at.new (toks tokens.now))) result (with_with (stmt_at room) room (drop at.old (toks tokens.now))) }
+) -> Result<Stmt<'a>, ParseError>
+    ensures { Returns (λ x. (stmt_tree x, drop at.new (toks tokens.now))) result (with_with (stmt_at room) room (drop at.old (toks tokens.now))) }
 {
-    let place = take_mark(Symbol::With, tokens, at)?;
+    let place = take_symbol(Symbol::With, tokens, at)?;
     let setup = block(arena, tokens, at, room)?;
-    take_mark(Symbol::Do, tokens, at)?;
+    take_symbol(Symbol::Do, tokens, at)?;
     let work = block(arena, tokens, at, room)?;
     Ok(with_block(place, setup, work))
 }
 
 /// A statement, in which so many brackets may open.
 #[cycle(statements)]
-#[tactic(auto, unfolding(crate::specs::ReadingStatements::stmt_at, crate::specs::ReadingStatements::stmt_with))]
+#[tactic(auto, unfolding(crate::specs::reading::Statements::stmt_at, crate::specs::reading::Statements::stmt_with))]
 fn stmt<'a>(
     arena: &'a Arena,
     tokens: &[Token<'a>],
     at: &mut usize,
     room: u32,
-) -> Result<Stmt<'a>, Stop>
-    ensures { Gives (λ x. (stmt_tree x, drop at.new (toks tokens.now))) result (stmt_at (suc room) (drop at.old (toks tokens.now))) }
+) -> Result<Stmt<'a>, ParseError>
+    ensures { Returns (λ x. (stmt_tree x, drop at.new (toks tokens.now))) result (stmt_at (suc room) (drop at.old (toks tokens.now))) }
 {
     if leads(Symbol::If, tokens, *at) {
         return if_stmt(arena, tokens, at, room);

@@ -3,12 +3,12 @@
 ghost use Rattle.std.specs.Prelude.{◌≡◌, ℕ, List, ◌+◌, ◌<◌, ◌==◌, ◌∷◌, [], length, drop, IfSome, IfOk};
 ghost use Rattle.std.specs.Option.{IfNone};
 ghost use Rattle.tw_syntax.specs.Names.{name_tree};
-ghost use Rattle.tw_parse.specs.declared.stop.Halt.TheVariants.{Syntax};
-ghost use Rattle.tw_parse.specs.declared.stop.Stop.TheVariants as stop;
+ghost use Rattle.tw_parse.specs.declared.error.Rejection.TheVariants.{Syntax};
+ghost use Rattle.tw_parse.specs.declared.error.ParseError.TheVariants as error;
 ghost use Rattle.tw_lex.specs.Scans.{seen, lexeme_of};
-ghost use Rattle.tw_parse.specs.Steps.{Gives, toks, mark_number, is_mark, is_name, is_number, leads, leads_name, leads_number, behind, place_at, take_mark, take_open, take_name, take_number, take_small, take_half};
+ghost use Rattle.tw_parse.specs.reading.Steps.{Returns, toks, symbol_number, is_symbol, is_name, is_number, leads, leads_name, leads_number, behind, place_at, take_symbol, take_open, take_name, take_number, take_bound_number, take_component};
 
-use crate::stop::{Halt, Stop};
+use crate::error::{ParseError, Rejection};
 use tw_lex::{Symbol, Token, TokenKind};
 use tw_syntax::Name;
 use tw_text::Pos;
@@ -34,20 +34,20 @@ pub fn left(tokens: &[Token<'_>], at: usize) -> usize
 }
 
 /// The halt where the token at this place is wrong.
-pub fn wrong(tokens: &[Token<'_>], at: usize) -> Stop
-    ensures { result ≡ stop.Halt (Syntax (length (drop at (toks tokens.now)))) }
+pub fn wrong(tokens: &[Token<'_>], at: usize) -> ParseError
+    ensures { result ≡ error.Rejection (Syntax (length (drop at (toks tokens.now)))) }
 {
-    Stop::Halt(Halt::Syntax(left(tokens, at)))
+    ParseError::Rejection(Rejection::Syntax(left(tokens, at)))
 }
 
 fn number_of(mark: Symbol) -> u8
-    ensures { result ≡ mark_number mark }
+    ensures { result ≡ symbol_number mark }
 {
     mark as u8
 }
 
-fn is_mark(mark: Symbol, kind: TokenKind) -> bool
-    ensures { (text : List ℕ) → result ≡ is_mark mark (lexeme_of kind text) }
+fn is_symbol(mark: Symbol, kind: TokenKind) -> bool
+    ensures { (text : List ℕ) → result ≡ is_symbol mark (lexeme_of kind text) }
 {
     match kind {
         TokenKind::Word(given) => number_of(given) == number_of(mark),
@@ -62,18 +62,18 @@ pub fn leads(mark: Symbol, tokens: &[Token<'_>], at: usize) -> bool
     ensures { result ≡ leads mark (drop at (toks tokens.now)) }
 {
     match first(tokens, at) {
-        Some(token) => is_mark(mark, token.kind),
+        Some(token) => is_symbol(mark, token.kind),
         None => false,
     }
 }
 
 /// This mark, and its place.
-pub fn take_mark(mark: Symbol, tokens: &[Token<'_>], at: &mut usize) -> Result<Pos, Stop>
-    ensures { Gives (λ p. (p, drop at.new (toks tokens.now))) result (take_mark mark (drop at.old (toks tokens.now))) }
+pub fn take_symbol(mark: Symbol, tokens: &[Token<'_>], at: &mut usize) -> Result<Pos, ParseError>
+    ensures { Returns (λ p. (p, drop at.new (toks tokens.now))) result (take_symbol mark (drop at.old (toks tokens.now))) }
 {
     match first(tokens, *at) {
         Some(token) => {
-            if !is_mark(mark, token.kind) {
+            if !is_symbol(mark, token.kind) {
                 return Err(wrong(tokens, *at));
             }
             *at += 1;
@@ -84,14 +84,19 @@ pub fn take_mark(mark: Symbol, tokens: &[Token<'_>], at: &mut usize) -> Result<P
 }
 
 /// This mark, which opens a bracket, and its place. An error too where no more brackets may open.
-pub fn take_open(mark: Symbol, room: u32, tokens: &[Token<'_>], at: &mut usize) -> Result<Pos, Stop>
-    ensures given { Gives (λ p. (p, drop at.new (toks tokens.now))) result (take_open mark room (drop at.old (toks tokens.now))) }
+pub fn take_open(
+    mark: Symbol,
+    room: u32,
+    tokens: &[Token<'_>],
+    at: &mut usize,
+) -> Result<Pos, ParseError>
+    ensures given { Returns (λ p. (p, drop at.new (toks tokens.now))) result (take_open mark room (drop at.old (toks tokens.now))) }
     ensures roomy { IfOk result (λ p. 0 < room) }
 {
     let count = left(tokens, *at);
-    let place = take_mark(mark, tokens, at)?;
+    let place = take_symbol(mark, tokens, at)?;
     if room == 0 {
-        return Err(Stop::Halt(Halt::Nesting(count)));
+        return Err(ParseError::Rejection(Rejection::Nesting(count)));
     }
     Ok(place)
 }
@@ -139,8 +144,8 @@ pub fn leads_number(tokens: &[Token<'_>], at: usize) -> bool
 }
 
 /// The place of the token at this place.
-pub fn place(tokens: &[Token<'_>], at: usize) -> Result<Pos, Stop>
-    ensures { Gives (λ p. p) result (place_at (drop at (toks tokens.now))) }
+pub fn place(tokens: &[Token<'_>], at: usize) -> Result<Pos, ParseError>
+    ensures { Returns (λ p. p) result (place_at (drop at (toks tokens.now))) }
 {
     match first(tokens, at) {
         Some(token) => Ok(token.at),
@@ -149,8 +154,8 @@ pub fn place(tokens: &[Token<'_>], at: usize) -> Result<Pos, Stop>
 }
 
 /// A name.
-pub fn take_name<'a>(tokens: &[Token<'a>], at: &mut usize) -> Result<Name<'a>, Stop>
-    ensures { Gives (λ name. (name_tree name, drop at.new (toks tokens.now))) result (take_name (drop at.old (toks tokens.now))) }
+pub fn take_name<'a>(tokens: &[Token<'a>], at: &mut usize) -> Result<Name<'a>, ParseError>
+    ensures { Returns (λ name. (name_tree name, drop at.new (toks tokens.now))) result (take_name (drop at.old (toks tokens.now))) }
 {
     let Some(token) = first(tokens, *at) else {
         return Err(wrong(tokens, *at));
@@ -168,8 +173,8 @@ pub fn take_name<'a>(tokens: &[Token<'a>], at: &mut usize) -> Result<Name<'a>, S
 }
 
 /// A number.
-pub fn take_number(tokens: &[Token<'_>], at: &mut usize) -> Result<u64, Stop>
-    ensures { Gives (λ number. (number, drop at.new (toks tokens.now))) result (take_number (drop at.old (toks tokens.now))) }
+pub fn take_number(tokens: &[Token<'_>], at: &mut usize) -> Result<u64, ParseError>
+    ensures { Returns (λ number. (number, drop at.new (toks tokens.now))) result (take_number (drop at.old (toks tokens.now))) }
 {
     let Some(token) = first(tokens, *at) else {
         return Err(wrong(tokens, *at));
@@ -184,9 +189,9 @@ pub fn take_number(tokens: &[Token<'_>], at: &mut usize) -> Result<u64, Stop>
 }
 
 /// A number of at most 255.
-#[tactic(auto, unfolding(crate::specs::Steps::take_small))]
-pub fn take_small(tokens: &[Token<'_>], at: &mut usize) -> Result<u8, Stop>
-    ensures { Gives (λ number. (number, drop at.new (toks tokens.now))) result (take_small (drop at.old (toks tokens.now))) }
+#[tactic(auto, unfolding(crate::specs::reading::Steps::take_bound_number))]
+pub fn take_bound_number(tokens: &[Token<'_>], at: &mut usize) -> Result<u8, ParseError>
+    ensures { Returns (λ number. (number, drop at.new (toks tokens.now))) result (take_bound_number (drop at.old (toks tokens.now))) }
 {
     let before = *at;
     let number = take_number(tokens, at)?;
@@ -198,9 +203,9 @@ pub fn take_small(tokens: &[Token<'_>], at: &mut usize) -> Result<u8, Stop>
 }
 
 /// The number 1 or 2.
-#[tactic(auto, unfolding(crate::specs::Steps::take_half))]
-pub fn take_half(tokens: &[Token<'_>], at: &mut usize) -> Result<u8, Stop>
-    ensures { Gives (λ number. (number, drop at.new (toks tokens.now))) result (take_half (drop at.old (toks tokens.now))) }
+#[tactic(auto, unfolding(crate::specs::reading::Steps::take_component))]
+pub fn take_component(tokens: &[Token<'_>], at: &mut usize) -> Result<u8, ParseError>
+    ensures { Returns (λ number. (number, drop at.new (toks tokens.now))) result (take_component (drop at.old (toks tokens.now))) }
 {
     let before = *at;
     let number = take_number(tokens, at)?;

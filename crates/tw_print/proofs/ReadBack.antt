@@ -9,7 +9,7 @@ use Rattle.tw_parse.specs.Sources.{IsSource}
 use Rattle.tw_parse.specs.Statements.{ProgramForm, program_text}
 use Rattle.tw_parse.specs.Trees.{decls_tree, HasTree}
 use Rattle.tw_lex.specs.Tokens.{Lexed}
-use Rattle.tw_parse.proofs.Elsewhere.{same_words}
+use Rattle.tw_parse.proofs.Elsewhere.{same_lexemes}
 use Rattle.tw_print.specs.Programs.{program_print}
 use Rattle.tw_print.specs.ReadBack.{ReadsBack}
 use Rattle.tw_print.proofs.Spelling.{Clear, ReadAt, Leads, AllGood}
@@ -43,7 +43,7 @@ pub reads_back : (tree : ProgramTree) (source : List ℕ) → IsSource source tr
 reads_back tree source s =
     let leads = tree_leads tree s.toks s.has_tree (good_words source first_place s.toks s.text s.has) in
     let r = leads.read first_place in
-    let w = same_words s.toks r.others tree r.same s.has_tree s.shallow in
+    let w = same_lexemes s.toks r.others tree r.same s.has_tree s.shallow in
     record {
       again = w.0;
       source = record { text = leads.text; toks = r.others; has = r.has; has_tree = w.1; shallow = w.2 };

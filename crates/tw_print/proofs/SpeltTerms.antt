@@ -3,7 +3,7 @@ use Rattle.std.proofs.Common.{List, ◌∷◌, codes, refl}
 use Rattle.tw_text.specs.declared.place.Pos.{Pos}
 use Rattle.tw_lex.specs.declared.symbol.Symbol.TheVariants as symbols
 use Rattle.tw_parse.specs.Grammar as form
-use Rattle.tw_parse.specs.Grammar.{TypeForm, type_text, StepsForm, steps_text, PathForm, path_text, AtomForm, atom_text, OpForm, op_mark, ExprForm, expr_text, BoundForm, bound_text, CallBoundForm, call_bound_text, MoreNamesForm, more_names_text, NamesForm, names_text, RhsForm, rhs_text}
+use Rattle.tw_parse.specs.Grammar.{TypeForm, type_text, StepsForm, steps_text, PathForm, path_text, AtomForm, atom_text, OpForm, op_symbol, ExprForm, expr_text, BoundForm, bound_text, CallBoundForm, call_bound_text, MoreNamesForm, more_names_text, NamesForm, names_text, RhsForm, rhs_text}
 use Rattle.tw_parse.specs.Trees.{type_tree, steps_tree, path_tree, atom_tree, op_kind, expr_tree, bound_tree, call_bound_tree, more_names_tree, names_tree, rhs_tree}
 use Rattle.tw_lex.specs.Tokens.{Lexed, sign_at}
 use Rattle.tw_print.specs.Terms.{type_print, steps_print, path_print, atom_print, op_print, expr_print, bound_print, call_bound_print, more_names_print, names_print, rhs_print}
@@ -39,7 +39,7 @@ atom_spelt (form.Nothing p q) = tight (sign symbols.OpenParen refl ▹ sign symb
 atom_spelt (form.Null p q to r) = (sign symbols.Null refl ▹ sign symbols.Less refl) ▹ type_spelt to ▹ tight (sign symbols.Greater refl)
 atom_spelt (form.Default p q of r) = (sign symbols.Default refl ▹ sign symbols.Less refl) ▹ type_spelt of ▹ tight (sign symbols.Greater refl)
 
-op_spelt : {p : Pos} {us : List Lexed} (f : OpForm) → Spelt Clear (edge_of (op_mark f)) (op_print (op_kind f)) (sign_at (op_mark f) p ∷ us) us
+op_spelt : {p : Pos} {us : List Lexed} (f : OpForm) → Spelt Clear (edge_of (op_symbol f)) (op_print (op_kind f)) (sign_at (op_symbol f) p ∷ us) us
 op_spelt form.Add = sign symbols.Plus refl
 op_spelt form.Sub = sign symbols.Minus refl
 op_spelt form.Mul = sign symbols.Star refl

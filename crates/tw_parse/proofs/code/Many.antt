@@ -1,25 +1,25 @@
 -- Reading items one after the other, as a loop does.
 use Rattle.std.proofs.Common.{◌≡◌, ℕ, zero, suc, ◌-◌, ◌+◌, ◌≤◌, ◌<◌, Bool, true, false, List, [], ◌∷◌, ◌++◌, length, Result, Ok, Err, refl, sym, ap, ◌∙◌, append_assoc, arith}
 use Rattle.std.proofs.lemmas.List.{append-nil}
-use Rattle.tw_parse.specs.declared.stop.Halt.{Halt}
-use Rattle.tw_parse.specs.declared.stop.Stop.{Stop}
-use Rattle.tw_parse.specs.declared.stop.Stop.TheVariants as stop
+use Rattle.tw_parse.specs.declared.error.Rejection.{Rejection}
+use Rattle.tw_parse.specs.declared.error.ParseError.{ParseError}
+use Rattle.tw_parse.specs.declared.error.ParseError.TheVariants as error
 use Rattle.tw_lex.specs.Tokens.{Lexed}
-use Rattle.tw_parse.specs.Steps.{Reader, ◌>>=◌, Fails, many_at, all_at, put_first}
+use Rattle.tw_parse.specs.reading.Steps.{Reader, ◌>>=◌, Fails, many_at, all_at, put_first}
 
 -- what was read before, and what is still read
-abbrev pub with_front : {X : Type 0} → List X → Result (List X × List Lexed) Halt → Result (List X × List Lexed) Halt
+abbrev pub with_front : {X : Type 0} → List X → Result (List X × List Lexed) Rejection → Result (List X × List Lexed) Rejection
 with_front front read = read >>= λ x. Ok (front ++ x.0, x.1)
 
 -- these items were read, and at most so many more from these tokens make up the whole
-pub record Reads {X : Type 0} (goes : List Lexed → Bool) (item : Reader X) (front : List X) (left : ℕ) (ts : List Lexed) (whole : Result (List X × List Lexed) Halt) : Type 0 where
+pub record Reads {X : Type 0} (goes : List Lexed → Bool) (item : Reader X) (front : List X) (left : ℕ) (ts : List Lexed) (whole : Result (List X × List Lexed) Rejection) : Type 0 where
   pub same : with_front front (many_at goes item left ts) ≡ whole
 
-regroup : {X : Type 0} (front : List X) (x : X) (read : Result (List X × List Lexed) Halt) → with_front front (read >>= λ y. Ok (x ∷ y.0, y.1)) ≡ with_front (front ++ x ∷ []) read
+regroup : {X : Type 0} (front : List X) (x : X) (read : Result (List X × List Lexed) Rejection) → with_front front (read >>= λ y. Ok (x ∷ y.0, y.1)) ≡ with_front (front ++ x ∷ []) read
 regroup {X} front x (Ok y) = ap (λ (xs : List X). Ok (xs, y.1)) (simp append_assoc)
 regroup front x (Err e) = refl
 
-front_none : {X : Type 0} (read : Result (List X × List Lexed) Halt) → with_front [] read ≡ read
+front_none : {X : Type 0} (read : Result (List X × List Lexed) Rejection) → with_front [] read ≡ read
 front_none (Ok x) = refl
 front_none (Err e) = refl
 
@@ -33,7 +33,7 @@ starts_with {goes = goes} {item = item} x count ts e =
     let k : count - 0 ≡ length ts = omega (arith, e) in
     record { same = rw k refl }
 
-pub goes_on : {X : Type 0} {goes : List Lexed → Bool} {item : Reader X} {front : List X} {count i : ℕ} {ts us : List Lexed} {x : X} {whole : Result (List X × List Lexed) Halt}
+pub goes_on : {X : Type 0} {goes : List Lexed → Bool} {item : Reader X} {front : List X} {count i : ℕ} {ts us : List Lexed} {x : X} {whole : Result (List X × List Lexed) Rejection}
     → Reads goes item front (count - i) ts whole → i < count → goes ts ≡ true → item ts ≡ Ok (x, us) → Reads goes item (front ++ x ∷ []) (count - (i + 1)) us whole
 unfolding many_at
 goes_on {goes = goes} {item = item} {front = front} {count = count} {i = i} {ts = ts} {us = us} {x = x} so_far lt going h =
@@ -42,31 +42,31 @@ goes_on {goes = goes} {item = item} {front = front} {count = count} {i = i} {ts 
     rw (k, going, h) (regroup front x (many_at goes item (count - (i + 1)) us)) in
     record { same = sym one ∙ so_far.same }
 
-pub fails : {X : Type 0} {goes : List Lexed → Bool} {item : Reader X} {front : List X} {count i : ℕ} {ts : List Lexed} {whole : Result (List X × List Lexed) Halt}
-    (e : Stop) → Reads goes item front (count - i) ts whole → i < count → goes ts ≡ true → Fails e (item ts) → Fails e whole
+pub fails : {X : Type 0} {goes : List Lexed → Bool} {item : Reader X} {front : List X} {count i : ℕ} {ts : List Lexed} {whole : Result (List X × List Lexed) Rejection}
+    (e : ParseError) → Reads goes item front (count - i) ts whole → i < count → goes ts ≡ true → Fails e (item ts) → Fails e whole
 unfolding many_at
-fails stop.Memory so_far lt going h = tt
-fails {goes = goes} {item = item} {front = front} {count = count} {i = i} {ts = ts} (stop.Halt halt) so_far lt going h =
+fails error.Memory so_far lt going h = tt
+fails {goes = goes} {item = item} {front = front} {count = count} {i = i} {ts = ts} (error.Rejection halt) so_far lt going h =
     let k : count - i ≡ suc (count - (i + 1)) = omega arith in
     let one : with_front front (many_at goes item (count - i) ts) ≡ Err halt = rw (k, going, h) refl in
     sym so_far.same ∙ one
 
 -- what fails at its first step fails
-pub fails_first : {A B : Type 0} (e : Stop) (read : Result A Halt) (next : A → Result B Halt) → Fails e read → Fails e (read >>= next)
-fails_first stop.Memory read next h = tt
-fails_first (stop.Halt halt) read next h = rw h refl
+pub fails_first : {A B : Type 0} (e : ParseError) (read : Result A Rejection) (next : A → Result B Rejection) → Fails e read → Fails e (read >>= next)
+fails_first error.Memory read next h = tt
+fails_first (error.Rejection halt) read next h = rw h refl
 
 many_none : {X : Type 0} (goes : List Lexed → Bool) (item : Reader X) (n : ℕ) (ts : List Lexed) → goes ts ≡ false → many_at goes item n ts ≡ Ok ([], ts)
 unfolding many_at
 many_none goes item zero ts h = refl
 many_none goes item (suc n) ts h = rw h refl
 
-pub stops : {X : Type 0} {goes : List Lexed → Bool} {item : Reader X} {front : List X} {left : ℕ} {ts : List Lexed} {whole : Result (List X × List Lexed) Halt}
+pub stops : {X : Type 0} {goes : List Lexed → Bool} {item : Reader X} {front : List X} {left : ℕ} {ts : List Lexed} {whole : Result (List X × List Lexed) Rejection}
     → Reads goes item front left ts whole → goes ts ≡ false → whole ≡ Ok (front, ts)
 stops {X} {goes = goes} {item = item} {front = front} {left = left} {ts = ts} so_far h =
     sym so_far.same ∙ rw (many_none goes item left ts h) (ap (λ (xs : List X). Ok (xs, ts)) (append-nil front))
 
-pub is_done : {X : Type 0} {goes : List Lexed → Bool} {item : Reader X} {front : List X} {count i : ℕ} {ts : List Lexed} {whole : Result (List X × List Lexed) Halt}
+pub is_done : {X : Type 0} {goes : List Lexed → Bool} {item : Reader X} {front : List X} {count i : ℕ} {ts : List Lexed} {whole : Result (List X × List Lexed) Rejection}
     → Reads goes item front (count - i) ts whole → count ≤ i → whole ≡ Ok (front, ts)
 unfolding many_at
 is_done {X} {goes = goes} {item = item} {front = front} {count = count} {i = i} {ts = ts} so_far le =

@@ -35,7 +35,7 @@ expr_grows (form.Not p atom) k = omega (arith, atom_grows atom k)
 expr_grows (form.Two p first q second r) k =
     omega (arith, atom_grows first (sign_at symbols.Comma q ∷ atom_text second (sign_at symbols.CloseParen r ∷ k)), atom_grows second (sign_at symbols.CloseParen r ∷ k))
 expr_grows (form.One atom) k = atom_grows atom k
-expr_grows (form.Op left op p right) k = omega (arith, atom_grows left (sign_at (form.op_mark op) p ∷ atom_text right k), atom_grows right k)
+expr_grows (form.Op left op p right) k = omega (arith, atom_grows left (sign_at (form.op_symbol op) p ∷ atom_text right k), atom_grows right k)
 
 bound_grows : (c : BoundForm) (k : List Lexed) → length k < length (bound_text c k)
 bound_grows (form.Fixed p value small) k = omega arith

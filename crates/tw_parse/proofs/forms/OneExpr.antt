@@ -5,9 +5,9 @@ use Rattle.tw_lex.specs.declared.symbol.Symbol.{Symbol}
 use Rattle.tw_lex.specs.declared.symbol.Symbol.TheVariants as symbols
 use Rattle.tw_lex.specs.Tokens.{Name, Sign, Lexed, sign_at}
 use Rattle.tw_parse.specs.Trees.{op_kind}
-use Rattle.tw_parse.specs.Grammar.{TypeForm, type_text, PathForm, path_text, StepsForm, steps_text, AtomForm, atom_text, OpForm, op_mark, ExprForm, expr_text}
-use Rattle.tw_parse.specs.Steps.{leads}
-use Rattle.tw_parse.specs.Reading.{op_of}
+use Rattle.tw_parse.specs.Grammar.{TypeForm, type_text, PathForm, path_text, StepsForm, steps_text, AtomForm, atom_text, OpForm, op_symbol, ExprForm, expr_text}
+use Rattle.tw_parse.specs.reading.Steps.{leads}
+use Rattle.tw_parse.specs.reading.Terms.{op_of}
 
 -- what two token lists share that are the same
 pub record Same (t u : Lexed) (ts us : List Lexed) : Type 0 where
@@ -138,19 +138,19 @@ op_form symbols.And = OpForm.And
 op_form symbols.Or = OpForm.Or
 op_form mark = OpForm.Add
 
-op_form-mark : (op : OpForm) → op_form (op_mark op) ≡ op
+op_form-mark : (op : OpForm) → op_form (op_symbol op) ≡ op
 unfolding op_form
 op_form-mark OpForm.Add = refl
 op_form-mark op = refl
 
-op-same : (op other : OpForm) → Sign (op_mark op) ≡ Sign (op_mark other) → op ≡ other
-op-same op other e = let marks : op_mark op ≡ op_mark other = cc in sym (op_form-mark op) ∙ (ap op_form marks ∙ op_form-mark other)
+op-same : (op other : OpForm) → Sign (op_symbol op) ≡ Sign (op_symbol other) → op ≡ other
+op-same op other e = let marks : op_symbol op ≡ op_symbol other = cc in sym (op_form-mark op) ∙ (ap op_form marks ∙ op_form-mark other)
 
-op-lacks_dot : (op : OpForm) (p : Pos) (k : List Lexed) → Lacks symbols.Dot (sign_at (op_mark op) p ∷ k)
+op-lacks_dot : (op : OpForm) (p : Pos) (k : List Lexed) → Lacks symbols.Dot (sign_at (op_symbol op) p ∷ k)
 op-lacks_dot OpForm.Add p k = refl
 op-lacks_dot op p k = refl
 
-op-is_op : (op : OpForm) (p : Pos) (k : List Lexed) → op_of (sign_at (op_mark op) p ∷ k) ≡ Some (op_kind op)
+op-is_op : (op : OpForm) (p : Pos) (k : List Lexed) → op_of (sign_at (op_symbol op) p ∷ k) ≡ Some (op_kind op)
 op-is_op OpForm.Add p k = refl
 op-is_op op p k = refl
 
@@ -161,7 +161,7 @@ pub record EndsExpr (k : List Lexed) : Type 0 where
 
 one-not_op : (a b c : AtomForm) (op : OpForm) (p : Pos) (k l : List Lexed) → EndsExpr k → atom_text a k ≡ expr_text (ExprForm.Op b op p c) l → ⊥
 one-not_op a b c op p k l ends e =
-    let h = atom-same a b k (sign_at (op_mark op) p ∷ atom_text c l) ends.dot (op-lacks_dot op p (atom_text c l)) e in
+    let h = atom-same a b k (sign_at (op_symbol op) p ∷ atom_text c l) ends.dot (op-lacks_dot op p (atom_text c l)) e in
     cc (ap op_of h.1, ends.op, op-is_op op p (atom_text c l))
 
 pub expr-same : (c d : ExprForm) (k l : List Lexed) → EndsExpr k → EndsExpr l → expr_text c k ≡ expr_text d l → (c ≡ d) × (k ≡ l)
@@ -190,7 +190,7 @@ expr-same (ExprForm.Op a op p b) (ExprForm.Not q c) k l hk hl e = absurd (atom-n
 expr-same (ExprForm.Op a op p b) (ExprForm.Two p' a' q' b' r') k l hk hl e = absurd (atom-not_two a a' _ _ p' (sym e))
 expr-same (ExprForm.Op a op p b) (ExprForm.One c) k l hk hl e = absurd (one-not_op c a b op p l k hl (sym e))
 expr-same (ExprForm.Op a op p b) (ExprForm.Op a' op' p' b') k l hk hl e =
-    let one = atom-same a a' (sign_at (op_mark op) p ∷ atom_text b k) (sign_at (op_mark op') p' ∷ atom_text b' l) (op-lacks_dot op p (atom_text b k)) (op-lacks_dot op' p' (atom_text b' l)) e in
+    let one = atom-same a a' (sign_at (op_symbol op) p ∷ atom_text b k) (sign_at (op_symbol op') p' ∷ atom_text b' l) (op-lacks_dot op p (atom_text b k)) (op-lacks_dot op' p' (atom_text b' l)) e in
     let sign = same one.1 in
     let two = atom-same b b' k l hk.dot hl.dot sign.rest in
     (cc (one.0, op-same op op' sign.lexeme, sign.at, two.0), two.1)

@@ -4,7 +4,7 @@ use Rattle.std.proofs.Math.Bridge.{le_prop}
 use Rattle.tw_text.specs.declared.place.Pos.{Pos}
 use Rattle.tw_lex.specs.declared.symbol.Symbol.TheVariants as symbols
 use Rattle.tw_lex.specs.Tokens.{Number, Lexed, name_at, sign_at}
-use Rattle.tw_parse.specs.Grammar.{StepsForm, steps_text, AtomForm, atom_text, OpForm, op_mark, ExprForm, expr_text, BoundForm, bound_text, CallBoundForm, call_bound_text, NamesForm, names_text, MoreNamesForm, more_names_text, RhsForm, rhs_text}
+use Rattle.tw_parse.specs.Grammar.{StepsForm, steps_text, AtomForm, atom_text, OpForm, op_symbol, ExprForm, expr_text, BoundForm, bound_text, CallBoundForm, call_bound_text, NamesForm, names_text, MoreNamesForm, more_names_text, RhsForm, rhs_text}
 use Rattle.tw_parse.proofs.forms.OneExpr.{same, name-same, Lacks, begins, type-same, atom-not, EndsExpr, expr-same}
 
 fixed-same : (p q : Pos) (x y : ℕ) (small : x ≤ 255) (other : y ≤ 255) → p ≡ q → x ≡ y → BoundForm.Fixed p x small ≡ BoundForm.Fixed q y other
@@ -73,7 +73,7 @@ unfolding NotCall
 steps-not_call StepsForm.NoSteps k h = h
 steps-not_call c k h = (refl, refl)
 
-op-not_call : (op : OpForm) (p : Pos) (k : List Lexed) → NotCall (sign_at (op_mark op) p ∷ k)
+op-not_call : (op : OpForm) (p : Pos) (k : List Lexed) → NotCall (sign_at (op_symbol op) p ∷ k)
 unfolding NotCall
 op-not_call OpForm.Add p k = (refl, refl)
 op-not_call op p k = (refl, refl)

@@ -6,8 +6,8 @@ use Rattle.tw_lex.specs.declared.symbol.Symbol.TheVariants as symbols
 use Rattle.tw_lex.specs.Tokens.{Lexeme, Lexed, name_at, number_at, sign_at}
 use Rattle.tw_parse.specs.Grammar.{TypeForm, type_text, PathForm, path_text, steps_text, AtomForm, atom_text, expr_text, rhs_text, bound_text, NamesForm, names_text, MoreNamesForm, more_names_text}
 use Rattle.tw_parse.specs.Statements.{stmt_text, StmtsForm, stmts_text, BlockForm, block_text, ParamsForm, params_text, MoreParamsForm, more_params_text, FunBoundForm, fun_bound_text, decl_text}
-use Rattle.tw_parse.specs.Whole.{IsProgram}
-use Rattle.tw_parse.specs.Machine.{N, TheMark, Name', Step', Small', Angled', Type', Paren', Path', Steps', Atom', Expr', ExprParen', OpTail', Rhs', AfterName', Bound', BoundTail', CallArgs', Args', MoreArgs', Stmt', LetArrow', Stmts', ElseTail', Block', Body', FunBody', AfterFunName', FunParams', Params', MoreParams', Decl', is_nullable, Next, next}
+use Rattle.tw_parse.specs.Prefixes.{IsProgram}
+use Rattle.tw_parse.proofs.machine.Automaton.{Expected, TheMark, Name', Step', Small', Angled', Type', Paren', Path', Steps', Atom', Expr', ExprParen', OpTail', Rhs', AfterName', Bound', BoundTail', CallArgs', Args', MoreArgs', Stmt', LetArrow', Stmts', ElseTail', Block', Body', FunBody', AfterFunName', FunParams', Params', MoreParams', Decl', is_nullable, Next, next}
 use Rattle.tw_parse.proofs.tokens.Words.{tok}
 
 -- the tokens begin with the text of a form, and what follows has K
@@ -119,7 +119,7 @@ abbrev pub after_fun_name_text : FunBoundForm × (Pos × (ParamsForm × Pos)) �
 after_fun_name_text form k = fun_bound_text form.0 (fun_params_text form.1 k)
 
 -- the tokens begin with what is awaited, and what follows has K; where a rule has begun already, with its beginning in front they are the whole rule
-abbrev pub Has : N → List Lexed → (List Lexed → Type 0) → Type 0
+abbrev pub Has : Expected → List Lexed → (List Lexed → Type 0) → Type 0
 Has (TheMark mark alone) ts K = Spelled (symbol_text mark) ts K
 Has Name' ts K = Spelled name_text ts K
 Has Step' ts K = Spelled step_text ts K
@@ -154,7 +154,7 @@ Has MoreParams' ts K = Spelled more_params_end_text ts K
 Has Decl' ts K = Spelled decl_text ts K
 
 -- the tokens meet all that is awaited, and behind it they end or are a program
-abbrev pub Forest : List N → List Lexed → Type 0
+abbrev pub Forest : List Expected → List Lexed → Type 0
 Forest [] ts = (ts ≡ []) ⊎ IsProgram ts
 Forest (n ∷ st) ts = Has n ts (Forest st)
 
@@ -171,8 +171,8 @@ Builds nullable Goal ts Next.Pop = Holds nullable
 Builds nullable Goal ts Next.Stop = Unit {0}
 
 -- at this word the move builds what is awaited
-abbrev pub Built : N → Lexeme → Type 0
-Built n w = (p : Pos) (ts : List Lexed) (st : List N) → Builds (is_nullable n) (Has n (tok w p ∷ ts) (Forest st)) ts (next n w st)
+abbrev pub Built : Expected → Lexeme → Type 0
+Built n w = (p : Pos) (ts : List Lexed) (st : List Expected) → Builds (is_nullable n) (Has n (tok w p ∷ ts) (Forest st)) ts (next n w st)
 
 pub builds_as : (nullable : Bool) {Goal Other : Type 0} (ts : List Lexed) (next : Next) → (Goal → Other) → Builds nullable Goal ts next → Builds nullable Other ts next
 builds_as nullable ts (Next.Take st) f built = λ h. f (built h)

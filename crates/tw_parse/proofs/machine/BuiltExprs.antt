@@ -3,8 +3,8 @@ use Rattle.std.proofs.Common.{◌≡◌, refl, ℕ, List, ◌∷◌, ap, true, f
 use Rattle.tw_text.specs.declared.place.Pos.{Pos}
 use Rattle.tw_lex.specs.declared.symbol.Symbol.TheVariants as symbols
 use Rattle.tw_lex.specs.Tokens.{Lexeme, Name, Number, Sign, Lexed, name_at, number_at, sign_at}
-use Rattle.tw_parse.specs.Grammar.{StepsForm, steps_text, AtomForm, atom_text, OpForm, op_mark, ExprForm, expr_text, RhsForm, rhs_text, BoundForm, CallBoundForm, NamesForm, MoreNamesForm}
-use Rattle.tw_parse.specs.Machine.{N, TheMark, Step', Small', Path', Steps', Atom', Expr', ExprParen', OpTail', Rhs', AfterName', Bound', BoundTail', CallArgs', Args', MoreArgs', next_atom, next_expr, next_op_tail}
+use Rattle.tw_parse.specs.Grammar.{StepsForm, steps_text, AtomForm, atom_text, OpForm, op_symbol, ExprForm, expr_text, RhsForm, rhs_text, BoundForm, CallBoundForm, NamesForm, MoreNamesForm}
+use Rattle.tw_parse.proofs.machine.Automaton.{Expected, TheMark, Step', Small', Path', Steps', Atom', Expr', ExprParen', OpTail', Rhs', AfterName', Bound', BoundTail', CallArgs', Args', MoreArgs', next_atom, next_expr, next_op_tail}
 use Rattle.tw_parse.proofs.machine.Awaited.{Spelled, spelled, respelled, joined, StepForm, step_text, Has, Forest, Built, builds_as}
 use Rattle.tw_parse.proofs.tokens.Words.{tok}
 use Rattle.tw_parse.proofs.machine.BuiltTypes.{builds_small}
@@ -44,7 +44,7 @@ builds_atom w p ts st = tt
 operated : {K : List Lexed → Type 0} (ts : List Lexed) → Spelled atom_text ts (λ k. (atom : AtomForm) → Spelled expr_text (atom_text atom k) K) → Spelled expr_text ts K
 operated ts f = respelled f.parts (f.more f.form)
 
-two_atoms : (ts : List Lexed) (st : List N) → Forest (Atom' ∷ TheMark symbols.Comma refl ∷ Atom' ∷ TheMark symbols.CloseParen refl ∷ st) ts → Has ExprParen' ts (Forest st)
+two_atoms : (ts : List Lexed) (st : List Expected) → Forest (Atom' ∷ TheMark symbols.Comma refl ∷ Atom' ∷ TheMark symbols.CloseParen refl ∷ st) ts → Has ExprParen' ts (Forest st)
 two_atoms ts st f q = spelled (λ x. sign_at symbols.OpenParen q ∷ x) (λ c. ExprForm.Two q c.0.0.0 c.0.0.1 c.0.1 c.1) (λ c k. refl) (joined (joined (joined f)))
 
 pub builds_expr : (w : Lexeme) → Built Expr' w
@@ -59,8 +59,8 @@ builds_expr_paren w p ts st =
     builds_as false ts (next_atom w behind) (two_atoms (tok w p ∷ ts) st) (builds_atom w p ts behind)
 
 op_with : {K : List Lexed → Type 0} (op : OpForm) (p : Pos) (ts : List Lexed) → Spelled atom_text ts K
-    → (atom : AtomForm) → Spelled expr_text (atom_text atom (sign_at (op_mark op) p ∷ ts)) K
-op_with op p ts f atom = spelled (λ x. atom_text atom (sign_at (op_mark op) p ∷ x)) (λ c. ExprForm.Op atom op p c) (λ c k. refl) f
+    → (atom : AtomForm) → Spelled expr_text (atom_text atom (sign_at (op_symbol op) p ∷ ts)) K
+op_with op p ts f atom = spelled (λ x. atom_text atom (sign_at (op_symbol op) p ∷ x)) (λ c. ExprForm.Op atom op p c) (λ c k. refl) f
 
 pub builds_op_tail : (w : Lexeme) → Built OpTail' w
 builds_op_tail (Sign symbols.Plus) p ts st = λ f. op_with OpForm.Add p ts f
@@ -87,16 +87,16 @@ of_name : {K : List Lexed → Type 0} (ts : List Lexed) → ((atom : AtomForm) �
 of_name ts f p name = plain (name_at name p ∷ ts) (f (AtomForm.Place (record { at = p; root = name; steps = StepsForm.NoSteps })))
 
 -- a name that steps follow
-of_steps : (p : Pos) (ts : List Lexed) (st : List N) → Forest (Step' ∷ Steps' ∷ OpTail' ∷ st) ts → Has AfterName' (sign_at symbols.Dot p ∷ ts) (Forest st)
+of_steps : (p : Pos) (ts : List Lexed) (st : List Expected) → Forest (Step' ∷ Steps' ∷ OpTail' ∷ st) ts → Has AfterName' (sign_at symbols.Dot p ∷ ts) (Forest st)
 of_steps p ts st f q name =
     let steps : Spelled steps_text (sign_at symbols.Dot p ∷ ts) (Forest (OpTail' ∷ st)) = stepped p ts f in
     plain (name_at name q ∷ sign_at symbols.Dot p ∷ ts) (respelled (ap (λ x. name_at name q ∷ x) steps.parts) (steps.more (AtomForm.Place (record { at = q; root = name; steps = steps.form }))))
 
-bounded_call : (p : Pos) (ts : List Lexed) (st : List N) → Forest (Bound' ∷ TheMark symbols.CloseBracket refl ∷ CallArgs' ∷ st) ts → Has AfterName' (sign_at symbols.OpenBracket p ∷ ts) (Forest st)
+bounded_call : (p : Pos) (ts : List Lexed) (st : List Expected) → Forest (Bound' ∷ TheMark symbols.CloseBracket refl ∷ CallArgs' ∷ st) ts → Has AfterName' (sign_at symbols.OpenBracket p ∷ ts) (Forest st)
 bounded_call p ts st f q name =
     spelled (λ x. name_at name q ∷ sign_at symbols.OpenBracket p ∷ x) (λ c. RhsForm.Call q name (CallBoundForm.Bound p c.0.0 c.0.1) c.1.0 c.1.1.0 c.1.1.1) (λ c k. refl) (joined (joined f))
 
-call : (p : Pos) (ts : List Lexed) (st : List N) → Forest (Args' ∷ st) ts → Has AfterName' (sign_at symbols.OpenParen p ∷ ts) (Forest st)
+call : (p : Pos) (ts : List Lexed) (st : List Expected) → Forest (Args' ∷ st) ts → Has AfterName' (sign_at symbols.OpenParen p ∷ ts) (Forest st)
 call p ts st f q name = spelled (λ x. name_at name q ∷ sign_at symbols.OpenParen p ∷ x) (λ c. RhsForm.Call q name CallBoundForm.NoBound p c.0 c.1) (λ c k. refl) f
 
 pub builds_after_name : (w : Lexeme) → Built AfterName' w
@@ -105,7 +105,7 @@ builds_after_name (Sign symbols.OpenBracket) p ts st = λ f. bounded_call p ts s
 builds_after_name (Sign symbols.OpenParen) p ts st = λ f. call p ts st f
 builds_after_name w p ts st = builds_as true ts (next_op_tail w st) (of_name {K = Forest st} (tok w p ∷ ts)) (builds_op_tail w p ts st)
 
-fixed : (ts : List Lexed) (st : List N) → Has Small' ts (Forest st) → Has Bound' ts (Forest st)
+fixed : (ts : List Lexed) (st : List Expected) → Has Small' ts (Forest st) → Has Bound' ts (Forest st)
 fixed ts st f = spelled (λ x. x) (λ c. BoundForm.Fixed c.at c.value c.small) (λ c k. refl) f
 
 pub builds_bound : (w : Lexeme) → Built Bound' w
@@ -113,7 +113,7 @@ builds_bound (Number value) p ts st = builds_as false ts _ (fixed (number_at val
 builds_bound (Name text) p ts st = λ f. f p text
 builds_bound w p ts st = tt
 
-less : (p : Pos) (ts : List Lexed) (st : List N) → Has Small' ts (Forest st) → Has BoundTail' (sign_at symbols.Minus p ∷ ts) (Forest st)
+less : (p : Pos) (ts : List Lexed) (st : List Expected) → Has Small' ts (Forest st) → Has BoundTail' (sign_at symbols.Minus p ∷ ts) (Forest st)
 less p ts st f q name = spelled (λ x. name_at name q ∷ sign_at symbols.Minus p ∷ x) (λ c. BoundForm.Less q name p c.at c.value c.small) (λ c k. refl) f
 
 pub builds_bound_tail : (w : Lexeme) → Built BoundTail' w

@@ -5,7 +5,7 @@ use Rattle.tw_lex.specs.declared.symbol.Symbol.TheVariants as symbols
 use Rattle.tw_lex.specs.Tokens.{Lexeme, Name, Sign, Lexed, name_at, sign_at}
 use Rattle.tw_parse.specs.Grammar.{RhsForm, rhs_text}
 use Rattle.tw_parse.specs.Statements.{StmtForm, stmt_text, BlockForm, StmtsForm}
-use Rattle.tw_parse.specs.Machine.{N, TheMark, Name', LetArrow', Path', Rhs', Stmt', Stmts', ElseTail', Block', Body', FunBody', next_stmt}
+use Rattle.tw_parse.proofs.machine.Automaton.{Expected, TheMark, Name', LetArrow', Path', Rhs', Stmt', Stmts', ElseTail', Block', Body', FunBody', next_stmt}
 use Rattle.tw_parse.proofs.machine.Awaited.{spelled, respelled, joined, NameForm, name_text, LetArrowForm, let_arrow_text, Has, Forest, Built, builds_as}
 use Rattle.tw_parse.proofs.tokens.Words.{tok}
 
@@ -19,10 +19,10 @@ let_of-text : (p : Pos) (name : NameForm) (arrow : LetArrowForm) (rhs : RhsForm)
 let_of-text p name (LetArrowForm.Gets q) rhs r k = refl
 let_of-text p name (LetArrowForm.Arrow q) rhs r k = refl
 
-bound_name : (p : Pos) (ts : List Lexed) (st : List N) → Forest (Name' ∷ LetArrow' ∷ Rhs' ∷ TheMark symbols.Semicolon refl ∷ st) ts → Has Stmt' (sign_at symbols.Let p ∷ ts) (Forest st)
+bound_name : (p : Pos) (ts : List Lexed) (st : List Expected) → Forest (Name' ∷ LetArrow' ∷ Rhs' ∷ TheMark symbols.Semicolon refl ∷ st) ts → Has Stmt' (sign_at symbols.Let p ∷ ts) (Forest st)
 bound_name p ts st f = spelled (λ x. sign_at symbols.Let p ∷ x) (λ c. let_of p c.0.0.0 c.0.0.1 c.0.1 c.1) (λ c k. let_of-text p c.0.0.0 c.0.0.1 c.0.1 c.1 k) (joined (joined (joined f)))
 
-conditional : (p : Pos) (ts : List Lexed) (st : List N) → Forest (Path' ∷ Block' ∷ ElseTail' ∷ st) ts → Has Stmt' (sign_at symbols.If p ∷ ts) (Forest st)
+conditional : (p : Pos) (ts : List Lexed) (st : List Expected) → Forest (Path' ∷ Block' ∷ ElseTail' ∷ st) ts → Has Stmt' (sign_at symbols.If p ∷ ts) (Forest st)
 conditional p ts st f =
     let head = joined f in
     respelled (ap (λ x. sign_at symbols.If p ∷ x) head.parts) (head.more p head.form.0 head.form.1)
@@ -38,7 +38,7 @@ builds_stmt (Sign symbols.OpenBrace) p ts st = λ f. spelled (λ x. sign_at symb
 builds_stmt (Sign symbols.Skip) p ts st = λ f. spelled (λ x. sign_at symbols.Skip p ∷ x) (λ c. StmtForm.Skip p c) (λ c k. refl) f
 builds_stmt w p ts st = tt
 
-first_of_stmts : (ts : List Lexed) (st : List N) → Forest (Stmt' ∷ Stmts' ∷ st) ts → Has Stmts' ts (Forest st)
+first_of_stmts : (ts : List Lexed) (st : List Expected) → Forest (Stmt' ∷ Stmts' ∷ st) ts → Has Stmts' ts (Forest st)
 first_of_stmts ts st f = spelled (λ x. x) (λ c. (StmtsForm.Stmts c.0 c.1.0, c.1.1)) (λ c k. refl) (joined f)
 
 pub builds_stmts : (w : Lexeme) → Built Stmts' w
@@ -48,7 +48,7 @@ builds_stmts w p ts st = builds_as false ts (next_stmt w (Stmts' ∷ st)) (first
 pub builds_else_tail : (w : Lexeme) → Built ElseTail' w
 builds_else_tail (Sign symbols.Else) p ts st = λ f. otherwise p ts st f
   where
-    otherwise : (p : Pos) (ts : List Lexed) (st : List N) → Forest (Block' ∷ st) ts → Has ElseTail' (sign_at symbols.Else p ∷ ts) (Forest st)
+    otherwise : (p : Pos) (ts : List Lexed) (st : List Expected) → Forest (Block' ∷ st) ts → Has ElseTail' (sign_at symbols.Else p ∷ ts) (Forest st)
     otherwise p ts st f q cond body =
         spelled (λ x. stmt_text (StmtForm.If q cond body) (sign_at symbols.Else p ∷ x)) (λ c. StmtForm.IfElse q cond body p c) (λ c k. refl) f
 builds_else_tail w p ts st = tt
@@ -57,11 +57,11 @@ pub builds_block : (w : Lexeme) → Built Block' w
 builds_block (Sign symbols.OpenBrace) p ts st = λ f. spelled (λ x. sign_at symbols.OpenBrace p ∷ x) (λ c. BlockForm.Braces p c.0 c.1) (λ c k. refl) f
 builds_block w p ts st = tt
 
-ended_body : (p : Pos) (ts : List Lexed) (st : List N) → Forest (Name' ∷ TheMark symbols.Semicolon refl ∷ TheMark symbols.CloseBrace refl ∷ st) ts → Has Body' (sign_at symbols.Return p ∷ ts) (Forest st)
+ended_body : (p : Pos) (ts : List Lexed) (st : List Expected) → Forest (Name' ∷ TheMark symbols.Semicolon refl ∷ TheMark symbols.CloseBrace refl ∷ st) ts → Has Body' (sign_at symbols.Return p ∷ ts) (Forest st)
 ended_body p ts st f =
     spelled (λ x. sign_at symbols.Return p ∷ x) (λ c. record { stmts = StmtsForm.NoStmts; return_at = p; returned = c.0.0; semicolon = c.0.1; end = c.1 }) (λ c k. refl) (joined (joined f))
 
-first_of_body : (ts : List Lexed) (st : List N) → Forest (Stmt' ∷ Body' ∷ st) ts → Has Body' ts (Forest st)
+first_of_body : (ts : List Lexed) (st : List Expected) → Forest (Stmt' ∷ Body' ∷ st) ts → Has Body' ts (Forest st)
 first_of_body ts st f = spelled (λ x. x) (λ c. record c.1 { stmts = StmtsForm.Stmts c.0 c.1.stmts }) (λ c k. refl) (joined f)
 
 pub builds_body : (w : Lexeme) → Built Body' w

@@ -4,14 +4,14 @@ use Rattle.tw_lex.specs.declared.symbol.Symbol.{Symbol}
 use Rattle.tw_lex.specs.declared.symbol.Symbol.TheVariants as symbols
 use Rattle.tw_lex.specs.Tokens.{Lexeme, Name, Number, Sign, Lexed, number_at, sign_at}
 use Rattle.tw_parse.specs.Grammar.{TypeForm}
-use Rattle.tw_parse.specs.Whole.{closes}
-use Rattle.tw_parse.specs.Steps.{is_mark, is_step, is_small}
-use Rattle.tw_parse.specs.Machine.{N, TheMark, Name', Step', Small', LetArrow', Type', Paren', Angled', Next, when, taken_mark, stands_alone, next_type}
-use Rattle.tw_parse.proofs.tokens.Words.{tok, is_mark-true, is_step-true, is_small-true}
+use Rattle.tw_parse.specs.Prefixes.{closes}
+use Rattle.tw_parse.specs.reading.Steps.{is_symbol, is_component, is_bound_number}
+use Rattle.tw_parse.proofs.machine.Automaton.{Expected, TheMark, Name', Step', Small', LetArrow', Type', Paren', Angled', Next, when, taken_mark, stands_alone, next_type}
+use Rattle.tw_parse.proofs.tokens.Words.{tok, is_symbol-true, is_component-true, is_bound_number-true}
 use Rattle.tw_parse.proofs.machine.Awaited.{spelled, joined, StepForm, LetArrowForm, Has, Forest, Builds, Built, builds_as}
 
 pub builds_mark : (mark : Symbol) (alone : stands_alone mark ≡ true) (w : Lexeme) → Built (TheMark mark alone) w
-builds_mark mark alone w p ts st = go (is_mark mark w) (closes (Sign mark)) (λ e. is_mark-true mark w e)
+builds_mark mark alone w p ts st = go (is_symbol mark w) (closes (Sign mark)) (λ e. is_symbol-true mark w e)
   where
     go : (is closing : Bool) → (is ≡ true → w ≡ Sign mark) → Builds false (Has (TheMark mark alone) (tok w p ∷ ts) (Forest st)) ts (when is (taken_mark closing st))
     go true true e = λ f. record { form = p; rest = ts; parts = ap (λ x. tok x p ∷ ts) (e refl); more = f }
@@ -23,7 +23,7 @@ builds_name (Name text) p ts st = λ f. record { form = record { name = text; at
 builds_name w p ts st = tt
 
 pub builds_step : (w : Lexeme) → Built Step' w
-builds_step (Number value) p ts st = go (is_step value) (is_step-true value)
+builds_step (Number value) p ts st = go (is_component value) (is_component-true value)
   where
     go : (is : Bool) → (is ≡ true → (value ≡ 1) ⊎ (value ≡ 2)) → Builds false (Has Step' (number_at value p ∷ ts) (Forest st)) ts (when is (Next.Take st))
     go true e = λ f. with (e refl) f
@@ -35,7 +35,7 @@ builds_step (Number value) p ts st = go (is_step value) (is_step-true value)
 builds_step w p ts st = tt
 
 pub builds_small : (w : Lexeme) → Built Small' w
-builds_small (Number value) p ts st = go (is_small value) (is_small-true value)
+builds_small (Number value) p ts st = go (is_bound_number value) (is_bound_number-true value)
   where
     go : (is : Bool) → (is ≡ true → value ≤ 255) → Builds false (Has Small' (number_at value p ∷ ts) (Forest st)) ts (when is (Next.Take st))
     go true e = λ f. record { form = record { value = value; small = e refl; at = p }; rest = ts; parts = refl; more = f }
@@ -59,7 +59,7 @@ builds_type (Sign symbols.Ptr) p ts st = λ f. spelled (λ x. sign_at symbols.Pt
 builds_type (Sign symbols.OpenParen) p ts st = λ f. f p
 builds_type w p ts st = tt
 
-paired : (ts : List Lexed) (st : List N) → Forest (Type' ∷ TheMark symbols.Comma refl ∷ Type' ∷ TheMark symbols.CloseParen refl ∷ st) ts → Has Paren' ts (Forest st)
+paired : (ts : List Lexed) (st : List Expected) → Forest (Type' ∷ TheMark symbols.Comma refl ∷ Type' ∷ TheMark symbols.CloseParen refl ∷ st) ts → Has Paren' ts (Forest st)
 paired ts st f q = spelled (λ x. sign_at symbols.OpenParen q ∷ x) (λ c. TypeForm.Pair q c.0.0.0 c.0.0.1 c.0.1 c.1) (λ c k. refl) (joined (joined (joined f)))
 
 pub builds_paren : (w : Lexeme) → Built Paren' w

@@ -3,10 +3,10 @@ use Rattle.std.proofs.Common.{◌≡◌, refl, List, [], ◌∷◌, ◌∙◌, B
 use Rattle.tw_lex.specs.declared.symbol.Symbol.{Symbol}
 use Rattle.tw_lex.specs.declared.symbol.Symbol.TheVariants as symbols
 use Rattle.tw_lex.specs.Tokens.{Sign, Lexed, name_at, number_at, sign_at}
-use Rattle.tw_parse.specs.Whole.{closes}
-use Rattle.tw_parse.specs.Steps.{is_mark}
-use Rattle.tw_parse.specs.Machine.{N, TheMark, Name', Step', Small', Angled', Type', Paren', Path', Steps', Atom', Expr', ExprParen', OpTail', Rhs', AfterName', Bound', BoundTail', CallArgs', Args', MoreArgs', Stmt', LetArrow', Stmts', ElseTail', Block', Body', FunBody', AfterFunName', FunParams', Params', MoreParams', Decl', stands_alone, when, taken_mark, settled, move, here}
-use Rattle.tw_parse.proofs.tokens.Words.{is_mark-same}
+use Rattle.tw_parse.specs.Prefixes.{closes}
+use Rattle.tw_parse.specs.reading.Steps.{is_symbol}
+use Rattle.tw_parse.proofs.machine.Automaton.{Expected, TheMark, Name', Step', Small', Angled', Type', Paren', Path', Steps', Atom', Expr', ExprParen', OpTail', Rhs', AfterName', Bound', BoundTail', CallArgs', Args', MoreArgs', Stmt', LetArrow', Stmts', ElseTail', Block', Body', FunBody', AfterFunName', FunParams', Params', MoreParams', Decl', stands_alone, when, taken_mark, settled, move, here}
+use Rattle.tw_parse.proofs.tokens.Words.{is_symbol-same}
 use Rattle.tw_parse.proofs.machine.Walks.{walk, moved}
 use Rattle.tw_parse.proofs.machine.TakenExprs.{Passes}
 
@@ -20,7 +20,7 @@ abbrev number : Lexed
 number = number_at 1 here
 
 -- some tokens that are this, in front of what follows
-abbrev pub filler : N → List Lexed → List Lexed
+abbrev pub filler : Expected → List Lexed → List Lexed
 filler (TheMark x alone) k = mark x ∷ k
 filler Name' k = name ∷ k
 filler Step' k = number ∷ k
@@ -55,7 +55,7 @@ filler MoreParams' k = mark symbols.CloseParen ∷ k
 filler Decl' k = mark symbols.Type ∷ name ∷ mark symbols.Define ∷ mark symbols.Uint ∷ mark symbols.Semicolon ∷ k
 
 -- some tokens that complete a stack; they end with a declaration, so that something always follows
-abbrev pub completion : List N → List Lexed
+abbrev pub completion : List Expected → List Lexed
 completion [] = filler Decl' []
 completion (n ∷ st) = filler n (completion st)
 
@@ -64,14 +64,14 @@ mark_ends : (x : Symbol) → stands_alone x ≡ true → (k : List Lexed) → Pa
 mark_ends symbols.Dot alone k = absurd (grind arith)
 mark_ends x alone k = λ st. refl
 
-completion_ends : (st : List N) → Passes Steps' (completion st)
+completion_ends : (st : List Expected) → Passes Steps' (completion st)
 completion_ends [] = λ st. refl
 completion_ends (Steps' ∷ st) = completion_ends st
 completion_ends (TheMark x alone ∷ st) = mark_ends x alone (completion st)
 completion_ends (n ∷ st) = λ s. refl
 
-fills_mark : (x : Symbol) (alone : stands_alone x ≡ true) (k : List Lexed) (st : List N) → walk (mark x ∷ k) (TheMark x alone ∷ st) ≡ walk k st
-fills_mark x alone k st = go (is_mark x (Sign x)) (closes (Sign x)) (is_mark-same x)
+fills_mark : (x : Symbol) (alone : stands_alone x ≡ true) (k : List Lexed) (st : List Expected) → walk (mark x ∷ k) (TheMark x alone ∷ st) ≡ walk k st
+fills_mark x alone k st = go (is_symbol x (Sign x)) (closes (Sign x)) (is_symbol-same x)
   where
     go : (is closing : Bool) → is ≡ true → moved (settled (when is (taken_mark closing st)) (move (Sign x) st)) (walk k) ≡ walk k st
     go true true e = refl
@@ -79,7 +79,7 @@ fills_mark x alone k st = go (is_mark x (Sign x)) (closes (Sign x)) (is_mark-sam
     go false closing e = absurd (grind arith)
 
 -- each stack can be completed
-pub completes : (st : List N) → walk (completion st) st ≡ Some []
+pub completes : (st : List Expected) → walk (completion st) st ≡ Some []
 completes [] = refl
 completes (TheMark x alone ∷ st) = fills_mark x alone (completion st) st ∙ completes st
 completes (Steps' ∷ st) = completion_ends st st ∙ completes st

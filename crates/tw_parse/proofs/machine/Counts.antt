@@ -3,14 +3,14 @@ use Rattle.std.proofs.Common.{◌≡◌, refl, ℕ, suc, List, [], ◌∷◌, ap
 use Rattle.tw_lex.specs.declared.symbol.Symbol.{Symbol}
 use Rattle.tw_lex.specs.declared.symbol.Symbol.TheVariants as symbols
 use Rattle.tw_lex.specs.Tokens.{Lexeme, Name, Number, Sign}
-use Rattle.tw_parse.specs.Whole.{announces, opens, closes}
-use Rattle.tw_parse.specs.Steps.{is_mark, is_step, is_small}
-use Rattle.tw_parse.specs.Machine.{N, Next, next, is_nullable, stands_alone, when, taken_mark, AfterFunName', AfterName', Angled', Args', Atom', Block', Body', Bound', BoundTail', CallArgs', Decl', ElseTail', Expr', ExprParen', FunBody', FunParams', LetArrow', MoreArgs', MoreParams', Name', OpTail', Params', Paren', Path', Rhs', Small', Step', Steps', Stmt', Stmts', Type', TheMark}
-use Rattle.tw_parse.proofs.tokens.Words.{is_mark-true}
+use Rattle.tw_parse.specs.Prefixes.{announces, opens, closes}
+use Rattle.tw_parse.specs.reading.Steps.{is_symbol, is_component, is_bound_number}
+use Rattle.tw_parse.proofs.machine.Automaton.{Expected, Next, next, is_nullable, stands_alone, when, taken_mark, AfterFunName', AfterName', Angled', Args', Atom', Block', Body', Bound', BoundTail', CallArgs', Decl', ElseTail', Expr', ExprParen', FunBody', FunParams', LetArrow', MoreArgs', MoreParams', Name', OpTail', Params', Paren', Path', Rhs', Small', Step', Steps', Stmt', Stmts', Type', TheMark}
+use Rattle.tw_parse.proofs.tokens.Words.{is_symbol-true}
 use Rattle.tw_parse.proofs.machine.Awaited.{Holds}
 
 -- a closing mark is awaited here
-abbrev pub is_closing : N → Bool
+abbrev pub is_closing : Expected → Bool
 is_closing (TheMark mark alone) = closes (Sign mark)
 is_closing Paren' = true
 is_closing ExprParen' = true
@@ -27,11 +27,11 @@ counted true n = suc n
 counted false n = n
 
 -- how many brackets are open where this is awaited
-abbrev pub open_in : List N → ℕ
+abbrev pub open_in : List Expected → ℕ
 open_in [] = 0
 open_in (n ∷ st) = counted (is_closing n) (open_in st)
 
-abbrev pub is_angled : N → Bool
+abbrev pub is_angled : Expected → Bool
 is_angled Angled' = true
 is_angled n = false
 
@@ -40,12 +40,12 @@ unless true b = false
 unless false b = b
 
 -- nowhere is a type in brackets awaited
-abbrev pub plain : List N → Bool
+abbrev pub plain : List Expected → Bool
 plain [] = true
 plain (n ∷ st) = unless (is_angled n) (plain st)
 
 -- a type in brackets is awaited first, where one was announced, and nowhere else
-abbrev pub Settled : Bool → List N → Type 0
+abbrev pub Settled : Bool → List Expected → Type 0
 Settled false st = plain st ≡ true
 Settled true [] = ⊥
 Settled true (n ∷ st) = (is_angled n ≡ true) × (plain st ≡ true)
@@ -59,8 +59,8 @@ Kept announced n good w Next.Pop = Unit {0}
 Kept announced n good w Next.Stop = Unit {0}
 
 -- at this word the move of what is awaited keeps the count
-abbrev pub Keeps : N → Lexeme → Type 0
-Keeps n w = (st : List N) → Kept (is_angled n) (counted (is_closing n) (open_in st)) (plain st) w (next n w st)
+abbrev pub Keeps : Expected → Lexeme → Type 0
+Keeps n w = (st : List Expected) → Kept (is_angled n) (counted (is_closing n) (open_in st)) (plain st) w (next n w st)
 
 plainly : (mark : Symbol) → stands_alone mark ≡ true → (announces (Sign mark) ≡ false) × (opens false (Sign mark) ≡ false)
 plainly symbols.OpenParen alone = absurd (grind arith)
@@ -72,7 +72,7 @@ plainly symbols.Alloc alone = absurd (grind arith)
 plainly mark alone = (refl, refl)
 
 kept_mark : (mark : Symbol) (alone : stands_alone mark ≡ true) (w : Lexeme) → Keeps (TheMark mark alone) w
-kept_mark mark alone w st = go (is_mark mark w) (closes (Sign mark)) refl (is_mark-true mark w)
+kept_mark mark alone w st = go (is_symbol mark w) (closes (Sign mark)) refl (is_symbol-true mark w)
   where
     settled_by : w ≡ Sign mark → plain st ≡ true → Settled (announces w) st
     settled_by e h = subst (λ b. Settled b st) (sym (ap announces e ∙ (plainly mark alone).0)) h
@@ -83,7 +83,7 @@ kept_mark mark alone w st = go (is_mark mark w) (closes (Sign mark)) refl (is_ma
     go true false c e = (refl, settled_by (e refl), ap (opens false) (e refl) ∙ (plainly mark alone).1, ap closes (e refl) ∙ c)
     go false closing c e = tt
 
-kept_number : (value : ℕ) (st : List N) (is : Bool) → Kept false (open_in st) (plain st) (Number value) (when is (Next.Take st))
+kept_number : (value : ℕ) (st : List Expected) (is : Bool) → Kept false (open_in st) (plain st) (Number value) (when is (Next.Take st))
 kept_number value st true = (refl, λ h. h, refl, refl)
 kept_number value st false = tt
 
@@ -132,13 +132,13 @@ kept_stmt (Sign symbols.Skip) st = (refl, λ h. h, refl, refl)
 kept_stmt w st = tt
 
 -- each symbol's move keeps the count
-pub kept : (n : N) (w : Lexeme) → Keeps n w
+pub kept : (n : Expected) (w : Lexeme) → Keeps n w
 kept (TheMark mark alone) w st = kept_mark mark alone w st
 kept Name' (Name text) st = (refl, λ h. h, refl, refl)
 kept Name' w st = tt
-kept Step' (Number value) st = kept_number value st (is_step value)
+kept Step' (Number value) st = kept_number value st (is_component value)
 kept Step' w st = tt
-kept Small' (Number value) st = kept_number value st (is_small value)
+kept Small' (Number value) st = kept_number value st (is_bound_number value)
 kept Small' w st = tt
 kept Angled' (Sign symbols.Less) st = (refl, λ h. h, refl)
 kept Angled' w st = tt
@@ -161,7 +161,7 @@ kept AfterName' (Sign symbols.Dot) st = (refl, λ h. h, refl, refl)
 kept AfterName' (Sign symbols.OpenBracket) st = (refl, λ h. h, refl, refl)
 kept AfterName' (Sign symbols.OpenParen) st = (refl, λ h. h, refl)
 kept AfterName' w st = kept_op_tail w st
-kept Bound' (Number value) st = kept_number value st (is_small value)
+kept Bound' (Number value) st = kept_number value st (is_bound_number value)
 kept Bound' (Name text) st = (refl, λ h. h, refl, refl)
 kept Bound' w st = tt
 kept BoundTail' (Sign symbols.Minus) st = (refl, λ h. h, refl, refl)
@@ -203,7 +203,7 @@ kept Decl' (Sign symbols.Type) st = (refl, λ h. h, refl, refl)
 kept Decl' (Sign symbols.Fun) st = (refl, λ h. h, refl, refl)
 kept Decl' w st = tt
 
-pub passed_by : (n : N) → Holds (is_nullable n) → (is_angled n ≡ false) × (is_closing n ≡ false)
+pub passed_by : (n : Expected) → Holds (is_nullable n) → (is_angled n ≡ false) × (is_closing n ≡ false)
 passed_by Steps' h = (refl, refl)
 passed_by OpTail' h = (refl, refl)
 passed_by AfterName' h = (refl, refl)

@@ -3,8 +3,8 @@ use Rattle.std.proofs.Common.{◌≡◌, refl, List, [], ◌∷◌, ap, ◌∙�
 use Rattle.tw_lex.specs.Tokens.{Lexeme, Lexed}
 use Rattle.tw_parse.specs.Grammar.{AtomForm, ExprForm, RhsForm, BoundForm, StepsForm}
 use Rattle.tw_parse.specs.Statements.{StmtForm, ProgramForm, decl_text}
-use Rattle.tw_parse.specs.Whole.{IsProgram}
-use Rattle.tw_parse.specs.Machine.{N, TheMark, Name', Step', Small', Angled', Type', Paren', Path', Steps', Atom', Expr', ExprParen', OpTail', Rhs', AfterName', Bound', BoundTail', CallArgs', Args', MoreArgs', Stmt', LetArrow', Stmts', ElseTail', Block', Body', FunBody', AfterFunName', FunParams', Params', MoreParams', Decl', is_nullable, Next, next, move, settled, at_end, left_at_end, Accept}
+use Rattle.tw_parse.specs.Prefixes.{IsProgram}
+use Rattle.tw_parse.proofs.machine.Automaton.{Expected, TheMark, Name', Step', Small', Angled', Type', Paren', Path', Steps', Atom', Expr', ExprParen', OpTail', Rhs', AfterName', Bound', BoundTail', CallArgs', Args', MoreArgs', Stmt', LetArrow', Stmts', ElseTail', Block', Body', FunBody', AfterFunName', FunParams', Params', MoreParams', Decl', is_nullable, Next, next, move, settled, at_end, left_at_end, Accept}
 use Rattle.tw_parse.proofs.machine.Awaited.{Has, Forest, Holds, Builds, Built, builds_as}
 use Rattle.tw_parse.proofs.machine.Walks.{walk, moved}
 use Rattle.tw_parse.proofs.machine.BuiltTypes.{builds_mark, builds_name, builds_step, builds_small, builds_let_arrow, builds_angled, builds_type, builds_paren}
@@ -13,7 +13,7 @@ use Rattle.tw_parse.proofs.machine.BuiltStmts.{builds_stmt, builds_stmts, builds
 use Rattle.tw_parse.proofs.machine.BuiltDecls.{builds_after_fun_name, builds_fun_params, builds_params, builds_more_params, builds_decl}
 
 -- at each word the move of each thing that is awaited builds it
-pub builds : (n : N) (w : Lexeme) → Built n w
+pub builds : (n : Expected) (w : Lexeme) → Built n w
 builds (TheMark mark alone) w = builds_mark mark alone w
 builds Name' w = builds_name w
 builds Step' w = builds_step w
@@ -48,7 +48,7 @@ builds MoreParams' w = builds_more_params w
 builds Decl' w = builds_decl w
 
 -- what may be none has a form of no tokens
-passed : (n : N) (ts : List Lexed) (st : List N) → Holds (is_nullable n) → Forest st ts → Has n ts (Forest st)
+passed : (n : Expected) (ts : List Lexed) (st : List Expected) → Holds (is_nullable n) → Forest st ts → Has n ts (Forest st)
 passed Steps' ts st h f = record { form = StepsForm.NoSteps; rest = ts; parts = refl; more = f }
 passed OpTail' ts st h f = λ atom. record { form = ExprForm.One atom; rest = ts; parts = refl; more = f }
 passed AfterName' ts st h f = λ p name.
@@ -65,7 +65,7 @@ begun ts f = go f.more
     go (inl end) = (ProgramForm.Last f.form, f.parts ∙ ap (decl_text f.form) end)
     go (inr more) = (ProgramForm.Decls f.form more.0, f.parts ∙ ap (decl_text f.form) more.1)
 
-settles : (n : N) (us ts : List Lexed) (st : List N) (now behind : Next) → Builds (is_nullable n) (Has n us (Forest st)) ts now → Builds false (Forest st us) ts behind
+settles : (n : Expected) (us ts : List Lexed) (st : List Expected) (now behind : Next) → Builds (is_nullable n) (Has n us (Forest st)) ts now → Builds false (Forest st us) ts behind
     → Builds false (Has n us (Forest st)) ts (settled now behind)
 settles n us ts st Next.Pop behind built under = builds_as false ts behind (passed n us st built) under
 settles n us ts st (Next.Take more) behind built under = built
@@ -73,12 +73,12 @@ settles n us ts st (Next.Open more) behind built under = built
 settles n us ts st (Next.Shut more) behind built under = built
 settles n us ts st Next.Stop behind built under = tt
 
-moves : (t : Lexed) (ts : List Lexed) (st : List N) → Builds false (Forest st (t ∷ ts)) ts (move t.lexeme st)
+moves : (t : Lexed) (ts : List Lexed) (st : List Expected) → Builds false (Forest st (t ∷ ts)) ts (move t.lexeme st)
 moves t ts [] = builds_as false ts (next Decl' t.lexeme []) (λ f. inr (begun (t ∷ ts) f)) (builds_decl t.lexeme t.at ts [])
 moves t ts (n ∷ st) = settles n (t ∷ ts) ts st (next n t.lexeme st) (move t.lexeme st) (builds n t.lexeme t.at ts st) (moves t ts st)
 
 -- at the end what is awaited may be none
-ended : (st : List N) → at_end st ≡ Accept → Forest st []
+ended : (st : List Expected) → at_end st ≡ Accept → Forest st []
 ended [] e = inl refl
 ended (n ∷ st) e = go (is_nullable n) (passed n [] st) (λ h. ended st h) e
   where
@@ -87,7 +87,7 @@ ended (n ∷ st) e = go (is_nullable n) (passed n [] st) (λ h. ended st h) e
     go true pass under e = pass tt (under e)
     go false pass under e = absurd (grind arith)
 
-grown : {Goal : Type 0} (ts : List Lexed) (rest : List N) (next : Next) → Builds false Goal ts next → ((st : List N) → walk ts st ≡ Some rest → Forest st ts)
+grown : {Goal : Type 0} (ts : List Lexed) (rest : List Expected) (next : Next) → Builds false Goal ts next → ((st : List Expected) → walk ts st ≡ Some rest → Forest st ts)
     → moved next (walk ts) ≡ Some rest → Goal
 grown ts rest (Next.Take st) built behind e = built (behind st e)
 grown ts rest (Next.Open st) built behind e = built (behind st e)
@@ -96,10 +96,10 @@ grown ts rest Next.Pop built behind e = absurd built
 grown ts rest Next.Stop built behind e = absurd (grind arith)
 
 -- tokens that are taken to where no further one is needed meet what is awaited
-pub forest : (ts : List Lexed) (st rest : List N) → walk ts st ≡ Some rest → at_end rest ≡ Accept → Forest st ts
+pub forest : (ts : List Lexed) (st rest : List Expected) → walk ts st ≡ Some rest → at_end rest ≡ Accept → Forest st ts
 forest [] st rest e a = let same : st ≡ rest = cc in ended st (ap at_end same ∙ a)
 forest (t ∷ ts) st rest e a = grown ts rest (move t.lexeme st) (moves t ts st) (λ s h. forest ts s rest h a) e
 
 -- whole tokens that are taken are a program
-pub program : (ts : List Lexed) (rest : List N) → walk ts (Decl' ∷ []) ≡ Some rest → at_end rest ≡ Accept → IsProgram ts
+pub program : (ts : List Lexed) (rest : List Expected) → walk ts (Decl' ∷ []) ≡ Some rest → at_end rest ≡ Accept → IsProgram ts
 program ts rest e a = begun ts (forest ts (Decl' ∷ []) rest e a)

@@ -1,22 +1,22 @@
 -- What the machine has taken of some tokens is open, and what is open it takes.
 use Rattle.std.proofs.Common.{◌≡◌, refl, List, [], ◌∷◌, ◌++◌, append_assoc, ap, ◌∙◌, sym, subst, Some, arith}
 use Rattle.tw_lex.specs.Tokens.{Lexed}
-use Rattle.tw_parse.specs.Whole.{IsProgram, IsOpen}
-use Rattle.tw_parse.specs.Machine.{N, Decl', Next, move}
+use Rattle.tw_parse.specs.Prefixes.{IsProgram, IsOpen}
+use Rattle.tw_parse.proofs.machine.Automaton.{Expected, Decl', Next, move}
 use Rattle.tw_parse.proofs.machine.Walks.{walk, moved}
 use Rattle.tw_parse.proofs.machine.Forests.{program}
 use Rattle.tw_parse.proofs.machine.TakenPrograms.{takes_program}
 use Rattle.tw_parse.proofs.machine.Completions.{completion, completes}
 
-abbrev pub start : List N
+abbrev pub start : List Expected
 start = Decl' ∷ []
 
 -- tokens behind others that are taken
-pub walk-append : (front back : List Lexed) (st rest : List N) → walk front st ≡ Some rest → walk (front ++ back) st ≡ walk back rest
+pub walk-append : (front back : List Lexed) (st rest : List Expected) → walk front st ≡ Some rest → walk (front ++ back) st ≡ walk back rest
 walk-append [] back st rest e = let same : st ≡ rest = cc in ap (walk back) same
 walk-append (t ∷ front) back st rest e = go (move t.lexeme st) (λ more h. walk-append front back more rest h) e
   where
-    go : (next : Next) → ((more : List N) → walk front more ≡ Some rest → walk (front ++ back) more ≡ walk back rest)
+    go : (next : Next) → ((more : List Expected) → walk front more ≡ Some rest → walk (front ++ back) more ≡ walk back rest)
         → moved next (walk front) ≡ Some rest → moved next (walk (front ++ back)) ≡ walk back rest
     go (Next.Take more) behind e = behind more e
     go (Next.Open more) behind e = behind more e
@@ -27,7 +27,7 @@ walk-append (t ∷ front) back st rest e = go (move t.lexeme st) (λ more h. wal
 pub walk-program : (toks : List Lexed) → IsProgram toks → walk toks start ≡ Some []
 walk-program toks h = ap (λ x. walk x start) h.1 ∙ takes_program h.0
 
-pub open_of_walk : (toks : List Lexed) (rest : List N) → walk toks start ≡ Some rest → IsOpen toks
+pub open_of_walk : (toks : List Lexed) (rest : List Expected) → walk toks start ≡ Some rest → IsOpen toks
 open_of_walk toks rest e =
     (completion rest, program (toks ++ completion rest) [] (walk-append toks (completion rest) start rest e ∙ completes rest) refl)
 

@@ -1,8 +1,8 @@
 -- Where the machine halts: what it has taken, what is awaited there, and how many brackets are open.
 use Rattle.std.proofs.Common.{◌≡◌, refl, ℕ, zero, suc, ◌+◌, ◌≤◌, List, [], ◌∷◌, ◌++◌, length, ap, ◌∙◌, sym, subst, subst₂, ◌⊎◌, inl, inr, Bool, true, false, Some, None, arith}
 use Rattle.tw_lex.specs.Tokens.{Lexeme, Lexed}
-use Rattle.tw_parse.specs.Whole.{announces, open_brackets}
-use Rattle.tw_parse.specs.Machine.{N, Decl', Next, next, settled, move, is_nullable, Outcome, Accept, Fail, Deep, at_end, left_at_end, went, run, here}
+use Rattle.tw_parse.specs.Prefixes.{announces, open_brackets}
+use Rattle.tw_parse.proofs.machine.Automaton.{Expected, Decl', Next, next, settled, move, is_nullable, Outcome, Accept, Fail, Deep, at_end, left_at_end, went, run, here}
 use Rattle.tw_parse.proofs.machine.Awaited.{Holds, Builds, Has, Forest}
 use Rattle.tw_parse.proofs.machine.Forests.{builds}
 use Rattle.tw_parse.proofs.tokens.Words.{tok}
@@ -11,44 +11,44 @@ use Rattle.tw_parse.proofs.machine.Counts.{is_closing, counted, open_in, is_angl
 use Rattle.tw_parse.proofs.machine.Shallow.{Shallow, count_of, shallow_none, shallow_then}
 
 -- nothing can be taken on, whatever follows
-abbrev pub IsStuck : List Lexed → List N → Type 0
+abbrev pub IsStuck : List Lexed → List Expected → Type 0
 IsStuck [] st = at_end st ≡ Fail 0
 IsStuck (t ∷ ts) st = (more : List Lexed) → walk (t ∷ more) st ≡ None
 
-pub record Accepted (limit : ℕ) (announced : Bool) (ts : List Lexed) (st : List N) : Type 0 where
-  pub rest : List N
+pub record Accepted (limit : ℕ) (announced : Bool) (ts : List Lexed) (st : List Expected) : Type 0 where
+  pub rest : List Expected
   pub taken : walk ts st ≡ Some rest
   pub end : at_end rest ≡ Accept
   pub shallow : Shallow limit (open_in st) announced ts
 
-pub record Failed (limit : ℕ) (announced : Bool) (ts : List Lexed) (st : List N) (left : ℕ) : Type 0 where
+pub record Failed (limit : ℕ) (announced : Bool) (ts : List Lexed) (st : List Expected) (left : ℕ) : Type 0 where
   pub front : List Lexed
   pub back : List Lexed
-  pub rest : List N
+  pub rest : List Expected
   pub parts : ts ≡ front ++ back
   pub count : left ≡ length back
   pub taken : walk front st ≡ Some rest
   pub stuck : IsStuck back rest
   pub shallow : Shallow limit (open_in st) announced front
 
-pub record Deepened (limit : ℕ) (announced : Bool) (ts : List Lexed) (st : List N) (left : ℕ) : Type 0 where
+pub record Deepened (limit : ℕ) (announced : Bool) (ts : List Lexed) (st : List Expected) (left : ℕ) : Type 0 where
   pub front : List Lexed
   pub bad : Lexed
   pub back : List Lexed
-  pub rest : List N
+  pub rest : List Expected
   pub parts : ts ≡ front ++ bad ∷ back
   pub count : left ≡ length (bad ∷ back)
   pub taken : walk (front ++ bad ∷ []) st ≡ Some rest
   pub shallow : Shallow limit (open_in st) announced front
   pub deeper : open_brackets (open_in st) announced (front ++ bad ∷ []) ≡ suc limit
 
-abbrev pub Halted : ℕ → Bool → List Lexed → List N → Outcome → Type 0
+abbrev pub Halted : ℕ → Bool → List Lexed → List Expected → Outcome → Type 0
 Halted limit announced ts st Accept = Accepted limit announced ts st
 Halted limit announced ts st (Fail left) = Failed limit announced ts st left
 Halted limit announced ts st (Deep left) = Deepened limit announced ts st left
 
 -- a token in front of where the machine halts
-prepended : (limit : ℕ) (announced : Bool) (t : Lexed) (ts : List Lexed) (st behind : List N) → open_in st ≤ limit
+prepended : (limit : ℕ) (announced : Bool) (t : Lexed) (ts : List Lexed) (st behind : List Expected) → open_in st ≤ limit
     → ((us : List Lexed) → walk (t ∷ us) st ≡ walk us behind) → count_of (open_in st) announced t.lexeme ≡ open_in behind
     → (outcome : Outcome) → Halted limit (announces t.lexeme) ts behind outcome → Halted limit announced (t ∷ ts) st outcome
 prepended limit announced t ts st behind fits walks counts outcome h = go outcome h
@@ -73,7 +73,7 @@ prepended limit announced t ts st behind fits walks counts outcome h = go outcom
     }
 
 -- a stack below a symbol that was announced, or was not
-below : (announced : Bool) (n : N) (st : List N) → Settled announced (n ∷ st) → (is_angled n ≡ announced) × (plain st ≡ true)
+below : (announced : Bool) (n : Expected) (st : List Expected) → Settled announced (n ∷ st) → (is_angled n ≡ announced) × (plain st ≡ true)
 below true n st h = h
 below false n st h = go (is_angled n) h
   where
@@ -81,7 +81,7 @@ below false n st h = go (is_angled n) h
     go false h = (refl, h)
     go true h = absurd (grind arith)
 
-kept_settled : (announced : Bool) (n : N) (w : Lexeme) (st : List N) (now behind : Next)
+kept_settled : (announced : Bool) (n : Expected) (w : Lexeme) (st : List Expected) (now behind : Next)
     → (Holds (is_nullable n) → Kept announced (open_in st) true w behind) → (now ≡ Next.Pop → Holds (is_nullable n))
     → Kept announced (counted (is_closing n) (open_in st)) true w now → Kept announced (counted (is_closing n) (open_in st)) true w (settled now behind)
 kept_settled announced n w st Next.Pop behind under pops h =
@@ -92,10 +92,10 @@ kept_settled announced n w st (Next.Shut more) behind under pops h = h
 kept_settled announced n w st Next.Stop behind under pops h = tt
 
 -- only what may be none is passed by
-pops_null : (n : N) (w : Lexeme) (st : List N) → next n w st ≡ Next.Pop → Holds (is_nullable n)
+pops_null : (n : Expected) (w : Lexeme) (st : List Expected) → next n w st ≡ Next.Pop → Holds (is_nullable n)
 pops_null n w st e = subst (Builds (is_nullable n) (Has n (tok w here ∷ []) (Forest st)) []) e (builds n w here [] st)
 
-kept_move : (announced : Bool) (w : Lexeme) (st : List N) → Settled announced st → Kept announced (open_in st) true w (move w st)
+kept_move : (announced : Bool) (w : Lexeme) (st : List Expected) → Settled announced st → Kept announced (open_in st) true w (move w st)
 kept_move true w [] h = absurd h
 kept_move false w [] h = kept Decl' w []
 kept_move announced w (n ∷ st) h =
@@ -105,7 +105,7 @@ kept_move announced w (n ∷ st) h =
     (pops_null n w st)
     (subst₂ (λ b g. Kept b (counted (is_closing n) (open_in st)) g w (next n w st)) parts.0 parts.1 (kept n w st))
 
-at_end_is : (st : List N) → (at_end st ≡ Accept) ⊎ (at_end st ≡ Fail 0)
+at_end_is : (st : List Expected) → (at_end st ≡ Accept) ⊎ (at_end st ≡ Fail 0)
 at_end_is [] = inl refl
 at_end_is (n ∷ st) = go (is_nullable n) (at_end_is st)
   where
@@ -113,7 +113,7 @@ at_end_is (n ∷ st) = go (is_nullable n) (at_end_is st)
     go true h = h
     go false h = inr refl
 
-halted_at_end : (limit : ℕ) (announced : Bool) (st : List N) → open_in st ≤ limit → Halted limit announced [] st (at_end st)
+halted_at_end : (limit : ℕ) (announced : Bool) (st : List Expected) → open_in st ≤ limit → Halted limit announced [] st (at_end st)
 halted_at_end limit announced st fits = go (at_end_is st)
   where
     go : (at_end st ≡ Accept) ⊎ (at_end st ≡ Fail 0) → Halted limit announced [] st (at_end st)
@@ -122,13 +122,13 @@ halted_at_end limit announced st fits = go (at_end_is st)
         (record { front = []; back = []; rest = st; parts = refl; count = refl; taken = refl; stuck = e; shallow = shallow_none limit (open_in st) announced fits })
 
 -- a token that may not stand here
-halted_here : (limit : ℕ) (announced : Bool) (t : Lexed) (ts : List Lexed) (st : List N) → open_in st ≤ limit → ((more : List Lexed) → walk (t ∷ more) st ≡ None)
+halted_here : (limit : ℕ) (announced : Bool) (t : Lexed) (ts : List Lexed) (st : List Expected) → open_in st ≤ limit → ((more : List Lexed) → walk (t ∷ more) st ≡ None)
     → Failed limit announced (t ∷ ts) st (suc (length ts))
 halted_here limit announced t ts st fits stuck =
     record { front = []; back = t ∷ ts; rest = st; parts = refl; count = refl; taken = refl; stuck = stuck; shallow = shallow_none limit (open_in st) announced fits }
 
-halted_went : (limit room : ℕ) (announced : Bool) (t : Lexed) (ts : List Lexed) (st : List N) → open_in st + room ≡ limit
-    → ((r : ℕ) (behind : List N) → Settled (announces t.lexeme) behind → open_in behind + r ≡ limit → Halted limit (announces t.lexeme) ts behind (run ts r behind))
+halted_went : (limit room : ℕ) (announced : Bool) (t : Lexed) (ts : List Lexed) (st : List Expected) → open_in st + room ≡ limit
+    → ((r : ℕ) (behind : List Expected) → Settled (announces t.lexeme) behind → open_in behind + r ≡ limit → Halted limit (announces t.lexeme) ts behind (run ts r behind))
     → (next : Next) → move t.lexeme st ≡ next → Kept announced (open_in st) true t.lexeme next
     → Halted limit announced (t ∷ ts) st (went next room (run ts) (suc (length ts)))
 halted_went limit room announced t ts st fits behind (Next.Take more) e h =
@@ -153,7 +153,7 @@ halted_went limit room announced t ts st fits behind Next.Pop e h = halted_here 
 halted_went limit room announced t ts st fits behind Next.Stop e h = halted_here limit announced t ts st (omega arith) (λ more. ap (λ x. moved x (walk more)) e)
 
 -- the machine's outcome says where it halts
-pub halted : (limit : ℕ) (announced : Bool) (ts : List Lexed) (room : ℕ) (st : List N) → Settled announced st → open_in st + room ≡ limit
+pub halted : (limit : ℕ) (announced : Bool) (ts : List Lexed) (room : ℕ) (st : List Expected) → Settled announced st → open_in st + room ≡ limit
     → Halted limit announced ts st (run ts room st)
 halted limit announced [] room st h fits = halted_at_end limit announced st (omega arith)
 halted limit announced (t ∷ ts) room st h fits =

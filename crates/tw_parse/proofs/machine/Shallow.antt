@@ -1,7 +1,7 @@
 -- No more brackets are open in some tokens than a limit.
 use Rattle.std.proofs.Common.{◌≡◌, ℕ, ◌+◌, ◌-◌, ◌≤◌, if◌then◌else◌, List, [], ◌∷◌, ◌++◌, subst, Bool, arith}
 use Rattle.tw_lex.specs.Tokens.{Lexeme, Lexed}
-use Rattle.tw_parse.specs.Whole.{announces, opens, closes, open_brackets}
+use Rattle.tw_parse.specs.Prefixes.{announces, opens, closes, open_brackets}
 
 -- at each place of the tokens, where so many are open before them
 abbrev pub Shallow : ℕ → ℕ → Bool → List Lexed → Type 0

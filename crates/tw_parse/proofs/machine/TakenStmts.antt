@@ -5,13 +5,13 @@ use Rattle.tw_lex.specs.declared.symbol.Symbol.TheVariants as symbols
 use Rattle.tw_lex.specs.Tokens.{Lexed, sign_at}
 use Rattle.tw_parse.specs.Grammar.{PathForm, path_text}
 use Rattle.tw_parse.specs.Statements.{StmtForm, stmt_text, BlockForm, block_text, StmtsForm, stmts_text}
-use Rattle.tw_parse.specs.Machine.{N, TheMark, Path', Steps', Stmt', Stmts', ElseTail', Block', Body'}
+use Rattle.tw_parse.proofs.machine.Automaton.{Expected, TheMark, Path', Steps', Stmt', Stmts', ElseTail', Block', Body'}
 use Rattle.tw_parse.proofs.machine.Walks.{walk}
 use Rattle.tw_parse.proofs.machine.TakenExprs.{Passes, EndsRhs, takes_path, takes_rhs}
 
 -- a list of statements, up to what ends it, goes on with each statement
-abbrev pub Absorbs : N → Type 0
-Absorbs n = (c : StmtForm) (k : List Lexed) (st : List N) → walk (stmt_text c k) (n ∷ st) ≡ walk (stmt_text c k) (Stmt' ∷ n ∷ st)
+abbrev pub Absorbs : Expected → Type 0
+Absorbs n = (c : StmtForm) (k : List Lexed) (st : List Expected) → walk (stmt_text c k) (n ∷ st) ≡ walk (stmt_text c k) (Stmt' ∷ n ∷ st)
 
 pub stmts_absorb : Absorbs Stmts'
 stmts_absorb (StmtForm.Block (BlockForm.Braces p stmts q)) k st = refl
@@ -35,12 +35,12 @@ block_ends (BlockForm.Braces p stmts q) k st = refl
 semicolon_ends : (p : Pos) (k : List Lexed) → EndsRhs (sign_at symbols.Semicolon p ∷ k)
 semicolon_ends p k = record { path = λ st. refl; op = λ st. refl; name = λ st. refl }
 
-takes_swap : (left : PathForm) (p : Pos) (right : PathForm) (q : Pos) (k : List Lexed) (st : List N)
+takes_swap : (left : PathForm) (p : Pos) (right : PathForm) (q : Pos) (k : List Lexed) (st : List Expected)
     → walk (path_text left (sign_at symbols.Swap p ∷ path_text right (sign_at symbols.Semicolon q ∷ k))) (Path' ∷ TheMark symbols.Swap refl ∷ Path' ∷ TheMark symbols.Semicolon refl ∷ st) ≡ walk k st
 takes_swap left p right q k st = takes_path left _ _ (λ s. refl) ∙ takes_path right (sign_at symbols.Semicolon q ∷ k) (TheMark symbols.Semicolon refl ∷ st) (λ s. refl)
 
 mutual
-  pub takes_stmt : (c : StmtForm) (k : List Lexed) (st : List N) → Passes ElseTail' k → walk (stmt_text c k) (Stmt' ∷ st) ≡ walk k st
+  pub takes_stmt : (c : StmtForm) (k : List Lexed) (st : List Expected) → Passes ElseTail' k → walk (stmt_text c k) (Stmt' ∷ st) ≡ walk k st
   takes_stmt (StmtForm.Let p n name q rhs r) k st ends = takes_rhs rhs (sign_at symbols.Semicolon r ∷ k) (TheMark symbols.Semicolon refl ∷ st) (semicolon_ends r k)
   takes_stmt (StmtForm.Unlet p n name q rhs r) k st ends = takes_rhs rhs (sign_at symbols.Semicolon r ∷ k) (TheMark symbols.Semicolon refl ∷ st) (semicolon_ends r k)
   takes_stmt (StmtForm.Swap left p right q) k st ends = takes_swap left p right q k st
@@ -55,10 +55,10 @@ mutual
   takes_stmt (StmtForm.Block (BlockForm.Braces p stmts q)) k st ends = takes_stmts stmts Stmts' (sign_at symbols.CloseBrace q ∷ k) st stmts_absorb (λ s. refl)
   takes_stmt (StmtForm.Skip p q) k st ends = refl
 
-  pub takes_block : (c : BlockForm) (k : List Lexed) (st : List N) → walk (block_text c k) (Block' ∷ st) ≡ walk k st
+  pub takes_block : (c : BlockForm) (k : List Lexed) (st : List Expected) → walk (block_text c k) (Block' ∷ st) ≡ walk k st
   takes_block (BlockForm.Braces p stmts q) k st = takes_stmts stmts Stmts' (sign_at symbols.CloseBrace q ∷ k) st stmts_absorb (λ s. refl)
 
-  pub takes_stmts : (c : StmtsForm) (n : N) (k : List Lexed) (st : List N) → Absorbs n → Passes ElseTail' k
+  pub takes_stmts : (c : StmtsForm) (n : Expected) (k : List Lexed) (st : List Expected) → Absorbs n → Passes ElseTail' k
       → walk (stmts_text c k) (n ∷ st) ≡ walk k (n ∷ st)
   takes_stmts StmtsForm.NoStmts n k st absorbs ends = refl
   takes_stmts (StmtsForm.Stmts first rest) n k st absorbs ends =

@@ -1,8 +1,8 @@
 -- The machine's outcome is what the grammar says of the tokens, and each text has one.
 use Rattle.std.proofs.Common.{◌≡◌, refl, ℕ, suc, ◌+◌, ◌≤◌, List, [], ◌∷◌, ◌++◌, length, append_assoc, append-nil, ap, ◌∙◌, sym, subst, false, ◌↔◌, length-append, Some, arith}
 use Rattle.tw_lex.specs.Tokens.{Lexed, sign_at}
-use Rattle.tw_parse.specs.Whole.{IsProgram, IsOpen, IsEnd, IsShallow, depth, IsSyntaxAt, IsTooDeepAt}
-use Rattle.tw_parse.specs.Machine.{N, Outcome, Accept, Fail, Deep, at_end, verdict, here, alias, nested, verdict_no_type, verdict_65}
+use Rattle.tw_parse.specs.Prefixes.{IsProgram, IsOpen, IsEnd, IsShallow, depth, IsSyntaxAt, IsTooDeepAt}
+use Rattle.tw_parse.proofs.machine.Automaton.{Expected, Outcome, Accept, Fail, Deep, at_end, verdict, here, alias, nested, verdict_no_type, verdict_65}
 use Rattle.tw_lex.specs.declared.symbol.Symbol.TheVariants as symbols
 use Rattle.tw_parse.proofs.machine.Walks.{walk}
 use Rattle.tw_parse.proofs.machine.Forests.{program}
@@ -12,7 +12,7 @@ use Rattle.tw_parse.proofs.machine.Fronts.{start, walk-append, walk-program, ope
 accepted : (toks : List Lexed) → Accepted 64 false toks start → IsProgram toks × IsShallow toks
 accepted toks h = (program toks h.rest h.taken h.end, h.shallow)
 
-ends : (front back : List Lexed) (rest : List N) → walk front start ≡ Some rest → IsStuck back rest → IsEnd front back
+ends : (front back : List Lexed) (rest : List Expected) → walk front start ≡ Some rest → IsStuck back rest → IsEnd front back
 ends front [] rest taken stuck = λ h.
     let same : rest ≡ [] = cc (walk-program front h, taken) in
     let none : at_end [] ≡ Fail 0 = subst (λ x. at_end x ≡ Fail 0) same stuck in

@@ -1,10 +1,10 @@
 -- The machine without a limit on its brackets, and where it stands behind some tokens.
 use Rattle.std.proofs.Common.{List, [], ◌∷◌, Option, Some, None}
 use Rattle.tw_lex.specs.Tokens.{Lexed}
-use Rattle.tw_parse.specs.Machine.{N, Next, move}
+use Rattle.tw_parse.proofs.machine.Automaton.{Expected, Next, move}
 
 -- what is awaited behind a move
-abbrev pub moved : Next → (List N → Option (List N)) → Option (List N)
+abbrev pub moved : Next → (List Expected → Option (List Expected)) → Option (List Expected)
 moved (Next.Take st) go = go st
 moved (Next.Open st) go = go st
 moved (Next.Shut st) go = go st
@@ -12,6 +12,6 @@ moved Next.Pop go = None
 moved Next.Stop go = None
 
 -- what is awaited behind these tokens
-abbrev pub walk : List Lexed → List N → Option (List N)
+abbrev pub walk : List Lexed → List Expected → Option (List Expected)
 walk [] st = Some st
 walk (t ∷ ts) st = moved (move t.lexeme st) (walk ts)

@@ -1,16 +1,16 @@
 -- What reading a whole text gives, the machine says, so it is what the grammar says: a program's tree, or where the tokens go wrong.
 use Rattle.std.proofs.Common.{◌≡◌, refl, ℕ, zero, suc, ◌≤◌, le_refl, List, [], ◌∷◌, length, ap, ◌∙◌, Result, Ok, Err, arith}
 use Rattle.tw_syntax.specs.Programs.{DeclTree, ProgramTree}
-use Rattle.tw_parse.specs.declared.stop.Halt.{Halt}
-use Rattle.tw_parse.specs.declared.stop.Halt.TheVariants.{Syntax, Nesting}
+use Rattle.tw_parse.specs.declared.error.Rejection.{Rejection}
+use Rattle.tw_parse.specs.declared.error.Rejection.TheVariants.{Syntax, Nesting}
 use Rattle.tw_lex.specs.Tokens.{Lexed}
 use Rattle.tw_parse.specs.Statements as form
 use Rattle.tw_parse.specs.Statements.{DeclForm, decl_text, ProgramForm, program_text}
 use Rattle.tw_parse.specs.Trees.{decl_tree, decls_tree, HasTree}
-use Rattle.tw_parse.specs.Whole.{IsShallow, IsSyntaxAt, IsTooDeepAt}
-use Rattle.tw_parse.specs.Steps.{◌>>=◌, many_at, all_at}
-use Rattle.tw_parse.specs.ReadingStatements.{decl_at, is_more, program_at, whole_at}
-use Rattle.tw_parse.specs.Machine.{N, Decl', Outcome, Accept, run, verdict}
+use Rattle.tw_parse.specs.Prefixes.{IsShallow, IsSyntaxAt, IsTooDeepAt}
+use Rattle.tw_parse.specs.reading.Steps.{◌>>=◌, many_at, all_at}
+use Rattle.tw_parse.specs.reading.Statements.{decl_at, is_more, program_at, whole_at}
+use Rattle.tw_parse.proofs.machine.Automaton.{Expected, Decl', Outcome, Accept, run, verdict}
 use Rattle.tw_parse.proofs.machine.Verdicts.{verdict-accept, verdict-fail, verdict-deep}
 use Rattle.tw_parse.proofs.reading.Runs.{follow, halted, Runs}
 use Rattle.tw_parse.proofs.reading.RunsPrograms.{runs_decl, runs_decls}
@@ -64,11 +64,11 @@ says_program room ts =
     tree first more c p e = ((p.form, c.spelled ∙ (p.same ∙ ap (program_text p.form) e.none)), ap program_of (ap (λ y. y ∷ more.0) c.value ∙ p.value))
 
 -- what the machine says of a whole text
-abbrev pub outcome : {X : Type 0} → Result X Halt → Outcome
+abbrev pub outcome : {X : Type 0} → Result X Rejection → Outcome
 outcome (Ok x) = Accept
 outcome (Err h) = halted h
 
-bind_end : {X Y : Type 0} (r : Result (X × List Lexed) Halt) (k : X × List Lexed → Result Y Halt) (room : ℕ) (mid : List N) {o : Outcome}
+bind_end : {X Y : Type 0} (r : Result (X × List Lexed) Rejection) (k : X × List Lexed → Result Y Rejection) (room : ℕ) (mid : List Expected) {o : Outcome}
     → Runs o r room mid → ((x : X × List Lexed) → r ≡ Ok x → run x.1 room mid ≡ outcome (k x)) → o ≡ outcome (r >>= k)
 unfolding follow
 bind_end (Ok x) k room mid e h = e.same ∙ h x refl

@@ -5,9 +5,9 @@ use Rattle.tw_text.specs.declared.place.Pos.{Pos}
 use Rattle.tw_syntax.specs.Terms.{AtomTree, UnitAtom, ExprTree}
 use Rattle.tw_lex.specs.declared.symbol.Symbol.TheVariants as symbols
 use Rattle.tw_lex.specs.Tokens.{Lexeme, Sign, Lexed}
-use Rattle.tw_parse.specs.Steps.{Reader, ◌>>=◌, leads, take_mark}
-use Rattle.tw_parse.specs.Reading.{op_at, not_at, two_at, paren_expr_at, op_expr_at, expr_at}
-use Rattle.tw_parse.specs.Machine.{N, TheMark, Atom', Expr', ExprParen', OpTail', run}
+use Rattle.tw_parse.specs.reading.Steps.{Reader, ◌>>=◌, leads, take_symbol}
+use Rattle.tw_parse.specs.reading.Terms.{op_at, not_at, two_at, paren_expr_at, op_expr_at, expr_at}
+use Rattle.tw_parse.proofs.machine.Automaton.{Expected, TheMark, Atom', Expr', ExprParen', OpTail', run}
 use Rattle.tw_parse.proofs.tokens.Words.{tok}
 use Rattle.tw_parse.proofs.reading.Runs.{follow, Runs, Reads, ReadsAt, bind, done}
 use Rattle.tw_parse.proofs.reading.RunsTypes.{runs_mark}
@@ -30,7 +30,7 @@ unfolding op_at follow
 runs_op at left room [] st = record { same = refl }
 runs_op at left room (t ∷ ts) st = runs_op_at at left room t.lexeme t.at ts st
 
-runs_two : (room : ℕ) (at : Pos) (ts : List Lexed) (st : List N)
+runs_two : (room : ℕ) (at : Pos) (ts : List Lexed) (st : List Expected)
     → Runs (run ts room (Atom' ∷ TheMark symbols.Comma refl ∷ Atom' ∷ TheMark symbols.CloseParen refl ∷ st)) (two_at at (suc room) ts) (suc room) st
 unfolding two_at
 runs_two room at ts st =
@@ -39,14 +39,14 @@ runs_two room at ts st =
 
 -- what stands behind the "(" of an expression
 abbrev paren_expr : Pos → ℕ → Reader ExprTree
-paren_expr at room ts = if leads symbols.CloseParen ts then (take_mark symbols.CloseParen ts >>= λ close. op_at at (UnitAtom at) (suc room) close.1) else two_at at (suc room) ts
+paren_expr at room ts = if leads symbols.CloseParen ts then (take_symbol symbols.CloseParen ts >>= λ close. op_at at (UnitAtom at) (suc room) close.1) else two_at at (suc room) ts
 
-runs_paren_expr_at : (room : ℕ) (at : Pos) (w : Lexeme) (p : Pos) (ts : List Lexed) (st : List N)
+runs_paren_expr_at : (room : ℕ) (at : Pos) (w : Lexeme) (p : Pos) (ts : List Lexed) (st : List Expected)
     → Runs (run (tok w p ∷ ts) room (ExprParen' ∷ st)) (paren_expr at room (tok w p ∷ ts)) (suc room) st
 runs_paren_expr_at room at (Sign symbols.CloseParen) p ts st = runs_op at (UnitAtom at) (suc room) ts st
 runs_paren_expr_at room at w p ts st = runs_two room at (tok w p ∷ ts) st
 
-runs_paren_expr : (room : ℕ) (at : Pos) (ts : List Lexed) (st : List N) → Runs (run ts room (ExprParen' ∷ st)) (paren_expr at room ts) (suc room) st
+runs_paren_expr : (room : ℕ) (at : Pos) (ts : List Lexed) (st : List Expected) → Runs (run ts room (ExprParen' ∷ st)) (paren_expr at room ts) (suc room) st
 runs_paren_expr room at [] st = runs_two room at [] st
 runs_paren_expr room at (t ∷ ts) st = runs_paren_expr_at room at t.lexeme t.at ts st
 

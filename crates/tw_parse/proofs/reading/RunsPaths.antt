@@ -2,20 +2,20 @@
 use Rattle.std.proofs.Common.{◌≡◌, refl, ℕ, zero, suc, List, [], ◌∷◌, length, Bool, true, false, if◌then◌else◌, Ok, Err}
 use Rattle.std.proofs.Math.Dec.{eqb-suc-zero}
 use Rattle.tw_lex.specs.declared.symbol.Symbol.TheVariants as symbols
-use Rattle.tw_parse.specs.declared.stop.Halt.TheVariants.{Syntax}
+use Rattle.tw_parse.specs.declared.error.Rejection.TheVariants.{Syntax}
 use Rattle.tw_lex.specs.Tokens.{Lexeme, Name, Number, Sign, Lexed}
-use Rattle.tw_parse.specs.Steps.{is_step, is_small, leads, all_at, take_small, take_half}
-use Rattle.tw_parse.specs.Reading.{type_at, step_at, path_at, unit_at, null_at, zero_at, plain_atom_at, atom_with, atom_at}
-use Rattle.tw_parse.specs.Machine.{N, Step', Small', Steps', Path', Atom', Next, when, settled, move, went, run}
+use Rattle.tw_parse.specs.reading.Steps.{is_component, is_bound_number, leads, all_at, take_bound_number, take_component}
+use Rattle.tw_parse.specs.reading.Terms.{type_at, step_at, path_at, unit_at, null_at, zero_at, plain_atom_at, atom_with, atom_at}
+use Rattle.tw_parse.proofs.machine.Automaton.{Expected, Step', Small', Steps', Path', Atom', Next, when, settled, move, went, run}
 use Rattle.tw_parse.proofs.tokens.Words.{tok}
 use Rattle.tw_parse.proofs.reading.Runs.{follow, Reads, ReadsAt, bind, done}
 use Rattle.tw_parse.proofs.reading.RunsTypes.{runs_mark, runs_angle, inside_type}
 use Rattle.tw_parse.proofs.reading.RunsLists.{Turn, runs_all}
 use Rattle.tw_parse.proofs.reading.SaysPaths.{step_shorter}
 
-runs_small_at : (room : ℕ) (w : Lexeme) → ReadsAt Small' take_small room w
-unfolding take_small follow
-runs_small_at room (Number value) p ts st = record { same = go (is_small value) }
+runs_small_at : (room : ℕ) (w : Lexeme) → ReadsAt Small' take_bound_number room w
+unfolding take_bound_number follow
+runs_small_at room (Number value) p ts st = record { same = go (is_bound_number value) }
   where
     go : (is : Bool) → went (settled (when is (Next.Take st)) (move (Number value) st)) room (run ts) (suc (length ts))
         ≡ follow (if is then Ok (value, ts) else Err (Syntax (suc (length ts)))) room st
@@ -23,14 +23,14 @@ runs_small_at room (Number value) p ts st = record { same = go (is_small value) 
     go false = refl
 runs_small_at room w p ts st = record { same = refl }
 
-pub runs_small : (room : ℕ) → Reads Small' take_small room
-unfolding take_small follow
+pub runs_small : (room : ℕ) → Reads Small' take_bound_number room
+unfolding take_bound_number follow
 runs_small room [] st = record { same = refl }
 runs_small room (t ∷ ts) st = runs_small_at room t.lexeme t.at ts st
 
-runs_half_at : (room : ℕ) (w : Lexeme) → ReadsAt Step' take_half room w
-unfolding take_half follow
-runs_half_at room (Number value) p ts st = record { same = go (is_step value) }
+runs_half_at : (room : ℕ) (w : Lexeme) → ReadsAt Step' take_component room w
+unfolding take_component follow
+runs_half_at room (Number value) p ts st = record { same = go (is_component value) }
   where
     go : (is : Bool) → went (settled (when is (Next.Take st)) (move (Number value) st)) room (run ts) (suc (length ts))
         ≡ follow (if is then Ok (value, ts) else Err (Syntax (suc (length ts)))) room st
@@ -38,12 +38,12 @@ runs_half_at room (Number value) p ts st = record { same = go (is_step value) }
     go false = refl
 runs_half_at room w p ts st = record { same = refl }
 
-runs_half : (room : ℕ) → Reads Step' take_half room
-unfolding take_half follow
+runs_half : (room : ℕ) → Reads Step' take_component room
+unfolding take_component follow
 runs_half room [] st = record { same = refl }
 runs_half room (t ∷ ts) st = runs_half_at room t.lexeme t.at ts st
 
-steps_turn : (room : ℕ) (st : List N) (ts : List Lexed) → Turn step_at room (Steps' ∷ st) st (leads symbols.Dot ts) ts
+steps_turn : (room : ℕ) (st : List Expected) (ts : List Lexed) → Turn step_at room (Steps' ∷ st) st (leads symbols.Dot ts) ts
 unfolding step_at
 steps_turn room st [] = refl
 steps_turn room st (t ∷ ts) = go t.lexeme

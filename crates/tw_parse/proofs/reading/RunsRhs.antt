@@ -6,9 +6,9 @@ use Rattle.tw_syntax.specs.Names.{NameTree}
 use Rattle.tw_syntax.specs.Terms.{BoundTree, SameBound, LessBound}
 use Rattle.tw_lex.specs.declared.symbol.Symbol.TheVariants as symbols
 use Rattle.tw_lex.specs.Tokens.{Lexeme, Name, Number, Sign, Lexed}
-use Rattle.tw_parse.specs.Steps.{Reader, ◌>>=◌, leads, all_at, take_mark, take_small}
-use Rattle.tw_parse.specs.Reading.{type_at, named_bound_at, bound_at, call_bound_at, comma_name_at, names_at, args_at, call_at, alloc_at, rhs_at, expr_at, op_expr_at}
-use Rattle.tw_parse.specs.Machine.{N, TheMark, Rhs', AfterName', Bound', BoundTail', CallArgs', Args', MoreArgs', run}
+use Rattle.tw_parse.specs.reading.Steps.{Reader, ◌>>=◌, leads, all_at, take_symbol, take_bound_number}
+use Rattle.tw_parse.specs.reading.Terms.{type_at, named_bound_at, bound_at, call_bound_at, comma_name_at, names_at, args_at, call_at, alloc_at, rhs_at, expr_at, op_expr_at}
+use Rattle.tw_parse.proofs.machine.Automaton.{Expected, TheMark, Rhs', AfterName', Bound', BoundTail', CallArgs', Args', MoreArgs', run}
 use Rattle.tw_parse.proofs.tokens.Words.{tok}
 use Rattle.tw_parse.proofs.reading.Runs.{follow, Runs, Reads, ReadsAt, bind, done}
 use Rattle.tw_parse.proofs.reading.RunsTypes.{runs_mark, runs_name, runs_angle, inside_type}
@@ -20,7 +20,7 @@ use Rattle.tw_parse.proofs.reading.SaysRhs.{comma_name_shorter}
 -- what stands behind the name of a bound
 abbrev bound_tail : NameTree → Reader BoundTree
 bound_tail name ts =
-    if leads symbols.Minus ts then (take_mark symbols.Minus ts >>= λ minus. take_small minus.1 >>= λ number. Ok (LessBound name number.0, number.1)) else Ok (SameBound name, ts)
+    if leads symbols.Minus ts then (take_symbol symbols.Minus ts >>= λ minus. take_bound_number minus.1 >>= λ number. Ok (LessBound name number.0, number.1)) else Ok (SameBound name, ts)
 
 runs_bound_tail_at : (room : ℕ) (name : NameTree) (w : Lexeme) → ReadsAt BoundTail' (bound_tail name) room w
 unfolding follow
@@ -43,7 +43,7 @@ unfolding bound_at named_bound_at follow
 runs_bound room [] st = record { same = refl }
 runs_bound room (t ∷ ts) st = runs_bound_at room t.lexeme t.at ts st
 
-names_turn : (room : ℕ) (st : List N) (ts : List Lexed) → Turn comma_name_at room (MoreArgs' ∷ st) (TheMark symbols.CloseParen refl ∷ st) (leads symbols.Comma ts) ts
+names_turn : (room : ℕ) (st : List Expected) (ts : List Lexed) → Turn comma_name_at room (MoreArgs' ∷ st) (TheMark symbols.CloseParen refl ∷ st) (leads symbols.Comma ts) ts
 unfolding comma_name_at
 names_turn room st [] = refl
 names_turn room st (t ∷ ts) = go t.lexeme
@@ -52,19 +52,19 @@ names_turn room st (t ∷ ts) = go t.lexeme
     go (Sign symbols.Comma) = runs_name room ts (MoreArgs' ∷ st)
     go w = refl
 
-runs_more_names : (room : ℕ) (ts : List Lexed) (st : List N)
+runs_more_names : (room : ℕ) (ts : List Lexed) (st : List Expected)
     → Runs (run ts room (MoreArgs' ∷ st)) (all_at (leads symbols.Comma) comma_name_at ts) room (TheMark symbols.CloseParen refl ∷ st)
 runs_more_names room ts st =
     runs_all (leads symbols.Comma) comma_name_at room (MoreArgs' ∷ st) (TheMark symbols.CloseParen refl ∷ st) refl (names_turn room st) comma_name_shorter ts
 
-runs_names_at : (room : ℕ) (w : Lexeme) (p : Pos) (ts : List Lexed) (st : List N)
+runs_names_at : (room : ℕ) (w : Lexeme) (p : Pos) (ts : List Lexed) (st : List Expected)
     → Runs (run (tok w p ∷ ts) room (Args' ∷ st)) (names_at (tok w p ∷ ts)) room (TheMark symbols.CloseParen refl ∷ st)
 unfolding names_at follow
 runs_names_at room (Name text) p ts st = bind (runs_more_names room ts st) (λ more. done)
 runs_names_at room (Sign symbols.CloseParen) p ts st = record { same = refl }
 runs_names_at room w p ts st = record { same = refl }
 
-runs_names : (room : ℕ) (ts : List Lexed) (st : List N) → Runs (run ts room (Args' ∷ st)) (names_at ts) room (TheMark symbols.CloseParen refl ∷ st)
+runs_names : (room : ℕ) (ts : List Lexed) (st : List Expected) → Runs (run ts room (Args' ∷ st)) (names_at ts) room (TheMark symbols.CloseParen refl ∷ st)
 unfolding names_at follow
 runs_names room [] st = record { same = refl }
 runs_names room (t ∷ ts) st = runs_names_at room t.lexeme t.at ts st
@@ -82,7 +82,7 @@ runs_args room [] st = record { same = refl }
 runs_args room (t ∷ ts) st = runs_args_at room t.lexeme t.at ts st
 
 -- what stands behind the name that a right side begins with
-runs_after_name : (room : ℕ) (text : List ℕ) (p : Pos) (w : Lexeme) (q : Pos) (ts : List Lexed) (st : List N)
+runs_after_name : (room : ℕ) (text : List ℕ) (p : Pos) (w : Lexeme) (q : Pos) (ts : List Lexed) (st : List Expected)
     → Runs (run (tok w q ∷ ts) room (AfterName' ∷ st)) (rhs_at room (tok (Name text) p ∷ tok w q ∷ ts)) room st
 unfolding rhs_at call_at call_bound_at
 runs_after_name room text p (Sign symbols.OpenBracket) q ts st =
@@ -91,7 +91,7 @@ runs_after_name room text p (Sign symbols.OpenBracket) q ts st =
 runs_after_name room text p (Sign symbols.OpenParen) q ts st = bind (runs_args room (tok (Sign symbols.OpenParen) q ∷ ts) st) (λ args. done)
 runs_after_name room text p w q ts st = bind (runs_expr room (tok (Name text) p ∷ tok w q ∷ ts) st) (λ expr. done)
 
-runs_rhs_name : (room : ℕ) (text : List ℕ) (p : Pos) (ts : List Lexed) (st : List N)
+runs_rhs_name : (room : ℕ) (text : List ℕ) (p : Pos) (ts : List Lexed) (st : List Expected)
     → Runs (run ts room (AfterName' ∷ st)) (rhs_at room (tok (Name text) p ∷ ts)) room st
 unfolding rhs_at
 runs_rhs_name room text p [] st = bind (runs_expr room (tok (Name text) p ∷ []) st) (λ expr. done)

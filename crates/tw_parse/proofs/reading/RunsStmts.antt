@@ -5,10 +5,10 @@ use Rattle.tw_text.specs.declared.place.Pos.{Pos}
 use Rattle.tw_syntax.specs.Statements.{StmtTree}
 use Rattle.tw_lex.specs.declared.symbol.Symbol.TheVariants as symbols
 use Rattle.tw_lex.specs.Tokens.{Lexeme, Name, Sign, Lexed}
-use Rattle.tw_parse.specs.Steps.{Reader, all_at}
-use Rattle.tw_parse.specs.Reading.{path_at}
-use Rattle.tw_parse.specs.ReadingStatements.{direction_at, rhs_end_at, let_at, exchange_at, swap_at, mem_swap_at, skip_at, goes_before, block_with, block_stmt_with, else_with, if_with, with_with, plain_stmt_at, stmt_with, stmt_at}
-use Rattle.tw_parse.specs.Machine.{N, TheMark, Name', Path', Rhs', Stmt', LetArrow', Stmts', ElseTail', Block', Body', run}
+use Rattle.tw_parse.specs.reading.Steps.{Reader, all_at}
+use Rattle.tw_parse.specs.reading.Terms.{path_at}
+use Rattle.tw_parse.specs.reading.Statements.{direction_at, rhs_end_at, let_at, exchange_at, swap_at, mem_swap_at, skip_at, goes_before, block_with, block_stmt_with, else_with, if_with, with_with, plain_stmt_at, stmt_with, stmt_at}
+use Rattle.tw_parse.proofs.machine.Automaton.{Expected, TheMark, Name', Path', Rhs', Stmt', LetArrow', Stmts', ElseTail', Block', Body', run}
 use Rattle.tw_parse.proofs.tokens.Words.{tok}
 use Rattle.tw_parse.proofs.reading.Runs.{follow, Runs, Reads, ReadsAt, Inside, bind, done}
 use Rattle.tw_parse.proofs.reading.RunsTypes.{runs_mark, runs_name}
@@ -33,36 +33,36 @@ unfolding direction_at follow
 runs_direction room [] st = record { same = refl }
 runs_direction room (t ∷ ts) st = runs_direction_at room t.lexeme t.at ts st
 
-runs_rhs_end : (room : ℕ) (ts : List Lexed) (st : List N) → Runs (run ts room (Rhs' ∷ TheMark symbols.Semicolon refl ∷ st)) (rhs_end_at room ts) room st
+runs_rhs_end : (room : ℕ) (ts : List Lexed) (st : List Expected) → Runs (run ts room (Rhs' ∷ TheMark symbols.Semicolon refl ∷ st)) (rhs_end_at room ts) room st
 unfolding rhs_end_at
 runs_rhs_end room ts st = bind (runs_rhs room ts _) (λ rhs. bind (runs_mark symbols.Semicolon refl room rhs.1 st) (λ end. done))
 
-runs_exchange : (room : ℕ) (ts : List Lexed) (st : List N)
+runs_exchange : (room : ℕ) (ts : List Lexed) (st : List Expected)
     → Runs (run ts room (TheMark symbols.Swap refl ∷ Path' ∷ TheMark symbols.Semicolon refl ∷ st)) (exchange_at ts) room st
 unfolding exchange_at
 runs_exchange room ts st =
     bind (runs_mark symbols.Swap refl room ts _) (λ exchange. bind (runs_path room exchange.1 _) (λ path. bind (runs_mark symbols.Semicolon refl room path.1 st) (λ end. done)))
 
 -- one turn of the statements of a block, or of a function
-block_turn_at : (inner : Reader StmtTree) (room : ℕ) → Reads Stmt' inner room → (w : Lexeme) (p : Pos) (ts : List Lexed) (st : List N)
+block_turn_at : (inner : Reader StmtTree) (room : ℕ) → Reads Stmt' inner room → (w : Lexeme) (p : Pos) (ts : List Lexed) (st : List Expected)
     → Turn inner room (Stmts' ∷ st) (TheMark symbols.CloseBrace refl ∷ st) (goes_before symbols.CloseBrace (tok w p ∷ ts)) (tok w p ∷ ts)
 block_turn_at inner room reads (Sign symbols.CloseBrace) p ts st = refl
 block_turn_at inner room reads w p ts st = reads (tok w p ∷ ts) (Stmts' ∷ st)
 
-block_turn : (inner : Reader StmtTree) (room : ℕ) → Reads Stmt' inner room → (st : List N) (ts : List Lexed)
+block_turn : (inner : Reader StmtTree) (room : ℕ) → Reads Stmt' inner room → (st : List Expected) (ts : List Lexed)
     → Turn inner room (Stmts' ∷ st) (TheMark symbols.CloseBrace refl ∷ st) (goes_before symbols.CloseBrace ts) ts
 block_turn inner room reads st [] = reads [] (Stmts' ∷ st)
 block_turn inner room reads st (t ∷ ts) = block_turn_at inner room reads t.lexeme t.at ts st
 
-abbrev pub return_stack : List N → List N
+abbrev pub return_stack : List Expected → List Expected
 return_stack st = TheMark symbols.Return refl ∷ Name' ∷ TheMark symbols.Semicolon refl ∷ TheMark symbols.CloseBrace refl ∷ st
 
-body_turn_at : (inner : Reader StmtTree) (room : ℕ) → Reads Stmt' inner room → (w : Lexeme) (p : Pos) (ts : List Lexed) (st : List N)
+body_turn_at : (inner : Reader StmtTree) (room : ℕ) → Reads Stmt' inner room → (w : Lexeme) (p : Pos) (ts : List Lexed) (st : List Expected)
     → Turn inner room (Body' ∷ st) (return_stack st) (goes_before symbols.Return (tok w p ∷ ts)) (tok w p ∷ ts)
 body_turn_at inner room reads (Sign symbols.Return) p ts st = refl
 body_turn_at inner room reads w p ts st = reads (tok w p ∷ ts) (Body' ∷ st)
 
-body_turn : (inner : Reader StmtTree) (room : ℕ) → Reads Stmt' inner room → (st : List N) (ts : List Lexed) → Turn inner room (Body' ∷ st) (return_stack st) (goes_before symbols.Return ts) ts
+body_turn : (inner : Reader StmtTree) (room : ℕ) → Reads Stmt' inner room → (st : List Expected) (ts : List Lexed) → Turn inner room (Body' ∷ st) (return_stack st) (goes_before symbols.Return ts) ts
 body_turn inner room reads st [] = reads [] (Body' ∷ st)
 body_turn inner room reads st (t ∷ ts) = body_turn_at inner room reads t.lexeme t.at ts st
 
@@ -118,6 +118,6 @@ runs_stmt zero ts st = runs_stmt_with (stmt_at zero) zero tt (stmt_shorter zero)
 runs_stmt (suc room) ts st = runs_stmt_with (stmt_at (suc room)) (suc room) (runs_stmt room) (stmt_shorter (suc room)) ts st
 
 -- the statements of a function up to its `return`
-pub runs_body_stmts : (room : ℕ) (ts : List Lexed) (st : List N) → Runs (run ts room (Body' ∷ st)) (all_at (goes_before symbols.Return) (stmt_at (suc room)) ts) room (return_stack st)
+pub runs_body_stmts : (room : ℕ) (ts : List Lexed) (st : List Expected) → Runs (run ts room (Body' ∷ st)) (all_at (goes_before symbols.Return) (stmt_at (suc room)) ts) room (return_stack st)
 runs_body_stmts room ts st =
     runs_all (goes_before symbols.Return) (stmt_at (suc room)) room (Body' ∷ st) (return_stack st) refl (body_turn (stmt_at (suc room)) room (runs_stmt room) st) (stmt_shorter (suc room)) ts

@@ -3,25 +3,25 @@ use Rattle.std.proofs.Common.{◌≡◌, refl, ℕ, suc, List, [], ◌∷◌, ap
 use Rattle.tw_text.specs.declared.place.Pos.{Pos}
 use Rattle.tw_syntax.specs.Terms.{AtomTree, UnitAtom, OpExpr}
 use Rattle.tw_lex.specs.declared.symbol.Symbol.TheVariants as symbols
-use Rattle.tw_parse.specs.declared.stop.Halt.{Halt}
+use Rattle.tw_parse.specs.declared.error.Rejection.{Rejection}
 use Rattle.tw_lex.specs.Tokens.{Lexeme, Sign, Lexed, sign_at}
 use Rattle.tw_parse.specs.Grammar as form
 use Rattle.tw_parse.specs.Grammar.{AtomForm, atom_text, OpForm, ExprForm, expr_text}
 use Rattle.tw_parse.specs.Trees.{atom_place, atom_tree, op_kind, expr_tree}
-use Rattle.tw_parse.specs.Steps.{◌>>=◌, leads}
-use Rattle.tw_parse.specs.Reading.{op_at, not_at, two_at, paren_expr_at, op_expr_at, expr_at}
+use Rattle.tw_parse.specs.reading.Steps.{◌>>=◌, leads}
+use Rattle.tw_parse.specs.reading.Terms.{op_at, not_at, two_at, paren_expr_at, op_expr_at, expr_at}
 use Rattle.tw_parse.proofs.tokens.Words.{tok}
 use Rattle.tw_parse.proofs.reading.Says.{Says, says, says_ok, says_as, says_either, Got, Spells, says_place, first_at}
 use Rattle.tw_parse.proofs.reading.SaysTypes.{says_mark, says_open}
 use Rattle.tw_parse.proofs.reading.SaysPaths.{says_atom}
 
-operand_got : (left : AtomForm) (op : OpForm) (p : Pos) (ts : List Lexed) {r : Result (AtomTree × List Lexed) Halt} → Says (Got atom_text atom_tree ts) r
-    → Says (Got expr_text expr_tree (atom_text left (sign_at (form.op_mark op) p ∷ ts))) (r >>= λ right. Ok (OpExpr (atom_place left) (op_kind op) (atom_tree left) right.0, right.1))
+operand_got : (left : AtomForm) (op : OpForm) (p : Pos) (ts : List Lexed) {r : Result (AtomTree × List Lexed) Rejection} → Says (Got atom_text atom_tree ts) r
+    → Says (Got expr_text expr_tree (atom_text left (sign_at (form.op_symbol op) p ∷ ts))) (r >>= λ right. Ok (OpExpr (atom_place left) (op_kind op) (atom_tree left) right.0, right.1))
 operand_got left op p ts h = says h (λ right c. says_ok (record { form = form.Op left op p c.form; spelled = cc; value = cc }))
 
 -- an operator and the atom behind it
 says_operand : (room : ℕ) (left : AtomForm) (op : OpForm) (p : Pos) (ts : List Lexed)
-    → Says (Got expr_text expr_tree (atom_text left (sign_at (form.op_mark op) p ∷ ts))) (op_at (atom_place left) (atom_tree left) room (sign_at (form.op_mark op) p ∷ ts))
+    → Says (Got expr_text expr_tree (atom_text left (sign_at (form.op_symbol op) p ∷ ts))) (op_at (atom_place left) (atom_tree left) room (sign_at (form.op_symbol op) p ∷ ts))
 unfolding op_at
 says_operand room left form.Add p ts = operand_got left form.Add p ts (says_atom (suc room) ts)
 says_operand room left op p ts = operand_got left op p ts (says_atom (suc room) ts)

@@ -4,14 +4,14 @@ use Rattle.tw_text.specs.declared.place.Pos.{Pos}
 use Rattle.tw_syntax.specs.Names.{NameTree, PathTree}
 use Rattle.tw_syntax.specs.Terms.{NumberAtom}
 use Rattle.tw_lex.specs.declared.symbol.Symbol.TheVariants as symbols
-use Rattle.tw_parse.specs.declared.stop.Halt.TheVariants.{Syntax}
+use Rattle.tw_parse.specs.declared.error.Rejection.TheVariants.{Syntax}
 use Rattle.tw_lex.specs.Tokens.{Lexed, number_at, sign_at}
 use Rattle.tw_parse.specs.Grammar as form
 use Rattle.tw_parse.specs.Grammar.{StepsForm, steps_text, PathForm, path_text, AtomForm, atom_text}
 use Rattle.tw_parse.specs.Trees.{steps_tree, path_tree, atom_tree}
-use Rattle.tw_parse.specs.Steps.{is_step, is_small, leads, leads_number, take_small, take_half, many_at}
-use Rattle.tw_parse.specs.Reading.{type_at, step_at, path_at, unit_at, null_at, zero_at, plain_atom_at, atom_with, atom_at}
-use Rattle.tw_parse.proofs.tokens.Words.{is_step-true, is_small-true}
+use Rattle.tw_parse.specs.reading.Steps.{is_component, is_bound_number, leads, leads_number, take_bound_number, take_component, many_at}
+use Rattle.tw_parse.specs.reading.Terms.{type_at, step_at, path_at, unit_at, null_at, zero_at, plain_atom_at, atom_with, atom_at}
+use Rattle.tw_parse.proofs.tokens.Words.{is_component-true, is_bound_number-true}
 use Rattle.tw_parse.proofs.reading.Says.{Says, says, says_ok, says_err, says_as, says_either, says_many, Shorter, Got, Spells, says_place, first_at}
 use Rattle.tw_parse.proofs.reading.SaysTypes.{says_mark, says_open, says_name, says_number, says_angle, says_type, Counted}
 
@@ -31,17 +31,17 @@ pub record Stepped (ts : List Lexed) (x : ℕ × List Lexed) : Type 0 where
   pub same : ts ≡ sign_at symbols.Dot dot ∷ number_at x.0 at ∷ x.1
   pub half : (x.0 ≡ 1) ⊎ (x.0 ≡ 2)
 
-pub says_small : (ts : List Lexed) → Says (Small ts) (take_small ts)
-unfolding take_small
-says_small ts = says (says_number ts) (λ number h. go number h (is_small number.0) (is_small-true number.0))
+pub says_small : (ts : List Lexed) → Says (Small ts) (take_bound_number ts)
+unfolding take_bound_number
+says_small ts = says (says_number ts) (λ number h. go number h (is_bound_number number.0) (is_bound_number-true number.0))
   where
     go : (number : ℕ × List Lexed) → Counted ts number → (is : Bool) → (is ≡ true → number.0 ≤ 255) → Says (Small ts) (if is then Ok number else Err (Syntax (length ts)))
     go number h true e = says_ok (record { at = h.at; same = h.same; small = e refl })
     go number h false e = says_err
 
-says_half : (ts : List Lexed) → Says (Half ts) (take_half ts)
-unfolding take_half
-says_half ts = says (says_number ts) (λ number h. go number h (is_step number.0) (is_step-true number.0))
+says_half : (ts : List Lexed) → Says (Half ts) (take_component ts)
+unfolding take_component
+says_half ts = says (says_number ts) (λ number h. go number h (is_component number.0) (is_component-true number.0))
   where
     go : (number : ℕ × List Lexed) → Counted ts number → (is : Bool) → (is ≡ true → (number.0 ≡ 1) ⊎ (number.0 ≡ 2))
         → Says (Half ts) (if is then Ok number else Err (Syntax (length ts)))

@@ -10,9 +10,9 @@ use Rattle.tw_parse.specs.Grammar.{TypeForm, type_text}
 use Rattle.tw_parse.specs.Statements as form
 use Rattle.tw_parse.specs.Statements.{StmtsForm, stmts_text, ParamForm, param_text, MoreParamsForm, more_params_text, ParamsForm, params_text, FunBoundForm, fun_bound_text, FunForm, fun_text, DeclForm, decl_text, ProgramForm, program_text}
 use Rattle.tw_parse.specs.Trees.{type_tree, stmts_tree, param_tree, more_params_tree, params_tree, fun_bound_tree, fun_tree, decl_tree}
-use Rattle.tw_parse.specs.Steps.{Reader, leads, leads_name, many_at}
-use Rattle.tw_parse.specs.Reading.{type_at}
-use Rattle.tw_parse.specs.ReadingStatements.{stmt_at, chain, goes_before, param_with, comma_param_with, param_list_with, params_at, fun_bound_at, Title, Interface, Return, Body, title_at, interface_at, return_at, body_at, fun_from, fun_at, type_end_at, alias_at, decl_at}
+use Rattle.tw_parse.specs.reading.Steps.{Reader, leads, leads_name, many_at}
+use Rattle.tw_parse.specs.reading.Terms.{type_at}
+use Rattle.tw_parse.specs.reading.Statements.{stmt_at, chain, goes_before, param_with, comma_param_with, param_list_with, params_at, fun_bound_at, Title, Interface, Return, Body, title_at, interface_at, return_at, body_at, fun_from, fun_at, type_end_at, alias_at, decl_at}
 use Rattle.tw_parse.proofs.reading.Says.{Says, says, says_ok, says_as, says_either, says_many, Shorter, says_shorter, Got, Spells}
 use Rattle.tw_parse.proofs.reading.SaysTypes.{says_mark, says_open, says_name, says_type}
 use Rattle.tw_parse.proofs.reading.SaysStmts.{says_stmts, says_stmt}

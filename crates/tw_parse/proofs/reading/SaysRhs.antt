@@ -7,8 +7,8 @@ use Rattle.tw_lex.specs.Tokens.{Lexed, name_at, sign_at}
 use Rattle.tw_parse.specs.Grammar as form
 use Rattle.tw_parse.specs.Grammar.{bound_text, call_bound_text, MoreNamesForm, more_names_text, NamesForm, names_text, rhs_text}
 use Rattle.tw_parse.specs.Trees.{bound_tree, call_bound_tree, more_names_tree, names_tree, rhs_tree}
-use Rattle.tw_parse.specs.Steps.{leads, leads_name, leads_number, many_at}
-use Rattle.tw_parse.specs.Reading.{type_at, named_bound_at, bound_at, call_bound_at, comma_name_at, names_at, args_at, call_at, leads_call, alloc_at, rhs_at}
+use Rattle.tw_parse.specs.reading.Steps.{leads, leads_name, leads_number, many_at}
+use Rattle.tw_parse.specs.reading.Terms.{type_at, named_bound_at, bound_at, call_bound_at, comma_name_at, names_at, args_at, call_at, leads_call, alloc_at, rhs_at}
 use Rattle.tw_parse.proofs.reading.Says.{Says, says, says_ok, says_as, says_either, says_many, Shorter, Got, Spells}
 use Rattle.tw_parse.proofs.reading.SaysTypes.{says_mark, says_open, says_name, says_angle, says_type}
 use Rattle.tw_parse.proofs.reading.SaysPaths.{says_small}

@@ -12,8 +12,8 @@ use Rattle.tw_parse.specs.Grammar.{PathForm, path_text, RhsForm, rhs_text}
 use Rattle.tw_parse.specs.Statements as form
 use Rattle.tw_parse.specs.Statements.{StmtForm, stmt_text, BlockForm, block_text, StmtsForm, stmts_text}
 use Rattle.tw_parse.specs.Trees.{named, path_tree, rhs_tree, stmt_tree, block_place, block_tree, stmts_tree}
-use Rattle.tw_parse.specs.Steps.{Reader, leads, many_at}
-use Rattle.tw_parse.specs.ReadingStatements.{direction_at, rhs_end_at, let_at, exchange_at, swap_at, mem_swap_at, skip_at, chain, goes_before, block_with, block_stmt_with, else_with, if_with, with_with, plain_stmt_at, stmt_with, stmt_at}
+use Rattle.tw_parse.specs.reading.Steps.{Reader, leads, many_at}
+use Rattle.tw_parse.specs.reading.Statements.{direction_at, rhs_end_at, let_at, exchange_at, swap_at, mem_swap_at, skip_at, chain, goes_before, block_with, block_stmt_with, else_with, if_with, with_with, plain_stmt_at, stmt_with, stmt_at}
 use Rattle.tw_parse.proofs.tokens.Words.{tok}
 use Rattle.tw_parse.proofs.reading.Says.{Says, says, says_ok, says_err, says_either, says_many, Got, Spells, says_place, first_at}
 use Rattle.tw_parse.proofs.reading.SaysTypes.{says_mark, says_open, says_name}

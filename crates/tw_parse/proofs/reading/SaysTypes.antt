@@ -5,14 +5,14 @@ use Rattle.tw_syntax.specs.Names.{NameTree}
 use Rattle.tw_syntax.specs.Types.{WrittenTree}
 use Rattle.tw_lex.specs.declared.symbol.Symbol.{Symbol}
 use Rattle.tw_lex.specs.declared.symbol.Symbol.TheVariants as symbols
-use Rattle.tw_parse.specs.declared.stop.Halt.TheVariants.{Syntax}
+use Rattle.tw_parse.specs.declared.error.Rejection.TheVariants.{Syntax}
 use Rattle.tw_lex.specs.Tokens.{Lexeme, Name, Number, Sign, Lexed, name_at, number_at, sign_at}
 use Rattle.tw_parse.specs.Grammar as form
 use Rattle.tw_parse.specs.Grammar.{TypeForm, type_text}
 use Rattle.tw_parse.specs.Trees.{type_tree}
-use Rattle.tw_parse.specs.Steps.{Reader, is_mark, leads, take_mark, take_open, take_name, take_number}
-use Rattle.tw_parse.specs.Reading.{angle_with, ptr_with, pair_with, paren_with, plain_type_at, type_with, type_at}
-use Rattle.tw_parse.proofs.tokens.Words.{tok, is_mark-true}
+use Rattle.tw_parse.specs.reading.Steps.{Reader, is_symbol, leads, take_symbol, take_open, take_name, take_number}
+use Rattle.tw_parse.specs.reading.Terms.{type_argument_with, ptr_with, pair_with, paren_with, plain_type_at, type_with, type_at}
+use Rattle.tw_parse.proofs.tokens.Words.{tok, is_symbol-true}
 use Rattle.tw_parse.proofs.reading.Says.{Says, says, says_ok, says_err, says_as, says_either, Got, Spells}
 
 pub record Marked (mark : Symbol) (ts : List Lexed) (x : Pos × List Lexed) : Type 0 where
@@ -32,9 +32,9 @@ pub record Angled (ts : List Lexed) (x : WrittenTree × List Lexed) : Type 0 whe
   pub same : ts ≡ sign_at symbols.Less less ∷ type_text ty (sign_at symbols.Greater more ∷ x.1)
   pub value : x.0 ≡ type_tree ty
 
-pub says_mark : (mark : Symbol) (ts : List Lexed) → Says (Marked mark ts) (take_mark mark ts)
+pub says_mark : (mark : Symbol) (ts : List Lexed) → Says (Marked mark ts) (take_symbol mark ts)
 says_mark mark [] = says_err
-says_mark mark (t ∷ ts) = go (is_mark mark t.lexeme) (is_mark-true mark t.lexeme)
+says_mark mark (t ∷ ts) = go (is_symbol mark t.lexeme) (is_symbol-true mark t.lexeme)
   where
     go : (is : Bool) → (is ≡ true → t.lexeme ≡ Sign mark) → Says (Marked mark (t ∷ ts)) (if is then Ok (t.at, ts) else Err (Syntax (suc (length ts))))
     go true e = says_ok (record { same = ap (λ w. tok w t.at ∷ ts) (e refl) })
@@ -61,8 +61,8 @@ says_number (t ∷ ts) = go t.lexeme
     go (Name text) = says_err
     go (Sign mark) = says_err
 
-pub says_angle : (inner : Reader WrittenTree) (room : ℕ) → Spells type_text type_tree inner → (ts : List Lexed) → Says (Angled ts) (angle_with inner room ts)
-unfolding angle_with
+pub says_angle : (inner : Reader WrittenTree) (room : ℕ) → Spells type_text type_tree inner → (ts : List Lexed) → Says (Angled ts) (type_argument_with inner room ts)
+unfolding type_argument_with
 says_angle inner room spells ts =
     says (says_open symbols.Less room ts) (λ less p. says (spells less.1) (λ to c. says (says_mark symbols.Greater to.1) (λ more q.
     says_ok (record { less = less.0; ty = c.form; more = more.0; same = cc; value = c.value }))))

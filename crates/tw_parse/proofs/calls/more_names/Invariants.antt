@@ -1,8 +1,8 @@
 use Rattle.std.proofs.Common.{◌-◌, drop, map}
 use Rattle.tw_syntax.specs.Names.{name_tree}
 use Rattle.tw_lex.specs.declared.symbol.Symbol.TheVariants as symbols
-use Rattle.tw_parse.specs.Steps.{toks, leads, all_at, put_first}
-use Rattle.tw_parse.specs.Reading.{comma_name_at}
+use Rattle.tw_parse.specs.reading.Steps.{toks, leads, all_at, put_first}
+use Rattle.tw_parse.specs.reading.Terms.{comma_name_at}
 use Rattle.tw_parse.proofs.code.Many.{Reads}
 use Rattle.tw_parse.proofs.calls.more_names.Given as goal
 

@@ -1,9 +1,9 @@
 use Rattle.std.proofs.Common.{◌-◌, suc, drop, map}
 use Rattle.tw_syntax.specs.Programs.{param_tree}
 use Rattle.tw_lex.specs.declared.symbol.Symbol.TheVariants as symbols
-use Rattle.tw_parse.specs.Steps.{toks, leads, all_at, put_first}
-use Rattle.tw_parse.specs.Reading.{type_at}
-use Rattle.tw_parse.specs.ReadingStatements.{comma_param_with}
+use Rattle.tw_parse.specs.reading.Steps.{toks, leads, all_at, put_first}
+use Rattle.tw_parse.specs.reading.Terms.{type_at}
+use Rattle.tw_parse.specs.reading.Statements.{comma_param_with}
 use Rattle.tw_parse.proofs.code.Many.{Reads}
 use Rattle.tw_parse.proofs.functions.more_params.Given as goal
 

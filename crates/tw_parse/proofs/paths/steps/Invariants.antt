@@ -1,7 +1,7 @@
 use Rattle.std.proofs.Common.{◌-◌, drop}
 use Rattle.tw_lex.specs.declared.symbol.Symbol.TheVariants as symbols
-use Rattle.tw_parse.specs.Steps.{toks, leads, all_at}
-use Rattle.tw_parse.specs.Reading.{step_at}
+use Rattle.tw_parse.specs.reading.Steps.{toks, leads, all_at}
+use Rattle.tw_parse.specs.reading.Terms.{step_at}
 use Rattle.tw_parse.proofs.code.Many.{Reads}
 use Rattle.tw_parse.proofs.paths.steps.Given as goal
 

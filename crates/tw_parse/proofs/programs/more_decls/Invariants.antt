@@ -1,7 +1,7 @@
 use Rattle.std.proofs.Common.{◌-◌, drop, map}
 use Rattle.tw_syntax.specs.Programs.{decl_tree}
-use Rattle.tw_parse.specs.Steps.{toks, all_at, put_first}
-use Rattle.tw_parse.specs.ReadingStatements.{is_more, decl_at}
+use Rattle.tw_parse.specs.reading.Steps.{toks, all_at, put_first}
+use Rattle.tw_parse.specs.reading.Statements.{is_more, decl_at}
 use Rattle.tw_parse.proofs.code.Many.{Reads}
 use Rattle.tw_parse.proofs.programs.more_decls.Given as goal
 

@@ -1,7 +1,7 @@
 use Rattle.std.proofs.Common.{◌+◌, ◌*◌, ◌-◌, suc, drop, map}
 use Rattle.tw_syntax.specs.Statements.{stmt_tree}
-use Rattle.tw_parse.specs.Steps.{toks, all_at}
-use Rattle.tw_parse.specs.ReadingStatements.{goes_before, stmt_at}
+use Rattle.tw_parse.specs.reading.Steps.{toks, all_at}
+use Rattle.tw_parse.specs.reading.Statements.{goes_before, stmt_at}
 use Rattle.tw_parse.proofs.code.Many.{Reads}
 use Rattle.tw_parse.proofs.statements.+statements.Given as goal
 

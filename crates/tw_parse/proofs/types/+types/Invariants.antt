@@ -13,5 +13,5 @@ decreases-paren l = 4 * l.room + 2
 abbrev pub decreases-pair : goal.decreases-pair
 decreases-pair l = 4 * l.room + 4
 
-abbrev pub decreases-angle : goal.decreases-angle
-decreases-angle l = 4 * l.room + 1
+abbrev pub decreases-type_argument : goal.decreases-type_argument
+decreases-type_argument l = 4 * l.room + 1

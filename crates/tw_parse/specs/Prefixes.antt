@@ -1,8 +1,13 @@
 -- Which tokens are a program, up to where tokens are the beginning of one, and how many brackets are open.
-use Rattle.std.specs.Prelude.{◌≡◌, ℕ, ◌+◌, ◌-◌, ◌≤◌, Bool, true, false, if◌then◌else◌, List, [], ◌∷◌, ◌++◌, length}
+use Rattle.std.specs.Prelude.{◌≡◌, ℕ, ◌+◌, ◌-◌, ◌≤◌, Bool, true, false, if◌then◌else◌, List, [], ◌∷◌, ◌++◌, length, codes, refl}
+use Rattle.std.proofs.Common.{ap}
+use Rattle.tw_text.specs.declared.refusal.Counted.TheVariants as counted
+use Rattle.tw_text.specs.Limits.{limit_of}
 use Rattle.tw_lex.specs.declared.symbol.Symbol.TheVariants as symbols
-use Rattle.tw_lex.specs.Tokens.{Lexeme, Sign, Lexed}
-use Rattle.tw_parse.specs.Statements.{ProgramForm, program_text}
+use Rattle.tw_lex.specs.Tokens.{Lexeme, Sign, Lexed, name_at, sign_at}
+use Rattle.tw_text.specs.declared.place.Pos.{Pos}
+use Rattle.tw_parse.specs.Grammar.{Uint}
+use Rattle.tw_parse.specs.Statements.{Alias, Fun, Last, Decls, ProgramForm, program_text}
 
 -- the tokens are a program
 abbrev pub IsProgram : List Lexed → Type 0
@@ -48,9 +53,9 @@ open_brackets n announced (t ∷ ts) =
 abbrev pub depth : List Lexed → ℕ
 depth toks = open_brackets 0 false toks
 
--- at most 64 brackets are open at each place of the tokens
+-- at each place of the tokens no more brackets are open than the limit says
 abbrev pub IsShallow : List Lexed → Type 0
-IsShallow toks = (front back : List Lexed) → toks ≡ front ++ back → depth front ≤ 64
+IsShallow toks = (front back : List Lexed) → toks ≡ front ++ back → depth front ≤ limit_of counted.Nesting
 
 -- with so many tokens left, the first one of them included, the tokens stop being the beginning of a program
 pub record IsSyntaxAt (toks : List Lexed) (left : ℕ) : Type 0 where
@@ -62,7 +67,7 @@ pub record IsSyntaxAt (toks : List Lexed) (left : ℕ) : Type 0 where
   pub before : IsOpen front
   pub at : IsEnd front back
 
--- with so many tokens left, the first one of them opens the 65th bracket, and no earlier one did
+-- with so many tokens left, the first one of them opens one bracket more than the limit, and no earlier one did
 pub record IsTooDeepAt (toks : List Lexed) (left : ℕ) : Type 0 where
   pub front : List Lexed
   pub next : Lexed
@@ -70,5 +75,29 @@ pub record IsTooDeepAt (toks : List Lexed) (left : ℕ) : Type 0 where
   pub parts : toks ≡ front ++ next ∷ back
   pub count : left ≡ length (next ∷ back)
   pub shallow : IsShallow front
-  pub deeper : depth (front ++ next ∷ []) ≡ 65
+  pub deeper : depth (front ++ next ∷ []) ≡ limit_of counted.Nesting + 1
   pub open_with : IsOpen (front ++ next ∷ [])
+
+-- `<` after `ptr` opens a bracket, and after a name it is an operator
+pub depth-pointer : (p q : Pos) → depth (sign_at symbols.Ptr p ∷ sign_at symbols.Less q ∷ []) ≡ 1
+depth-pointer p q = refl
+
+pub depth-operator : (p q : Pos) → depth (name_at (codes "x") p ∷ sign_at symbols.Less q ∷ []) ≡ 0
+depth-operator p q = refl
+
+pub depth-closed : (p q r : Pos) → depth (sign_at symbols.OpenBrace p ∷ sign_at symbols.OpenParen q ∷ sign_at symbols.CloseParen r ∷ []) ≡ 1
+depth-closed p q r = refl
+
+-- `type` is a viable prefix
+pub type_is_open : (p : Pos) → IsOpen (sign_at symbols.Type p ∷ [])
+type_is_open p = (name_at (codes "t") p ∷ sign_at symbols.Define p ∷ sign_at symbols.Uint p ∷ sign_at symbols.Semicolon p ∷ [], (Last (Alias p p (codes "t") p (Uint p) p), refl))
+
+first_lexeme : {t u : Lexed} {ts us : List Lexed} → t ∷ ts ≡ u ∷ us → t.lexeme ≡ u.lexeme
+first_lexeme {t = t} {u = u} e = let first : t ≡ u = cc in ap (λ x. x.lexeme) first
+
+-- no program begins with a comma
+pub comma_is_not_open : (p : Pos) → ¬ (IsOpen (sign_at symbols.Comma p ∷ []))
+comma_is_not_open p (more, (Last (Alias q n name r body e), same)) = cc (first_lexeme same)
+comma_is_not_open p (more, (Last (Fun fun), same)) = cc (first_lexeme same)
+comma_is_not_open p (more, (Decls (Alias q n name r body e) rest, same)) = cc (first_lexeme same)
+comma_is_not_open p (more, (Decls (Fun fun) rest, same)) = cc (first_lexeme same)

@@ -1,13 +1,13 @@
 //! Why reading ends early.
 
 ghost use Rattle.std.specs.Prelude.{◌≡◌};
-ghost use Rattle.tw_parse.specs.declared.stop.Stop.TheVariants.{Memory};
+ghost use Rattle.tw_parse.specs.declared.error.ParseError.TheVariants.{Memory};
 
 use std::alloc::{AllocError, AllocFailed};
 
 /// What is wrong with the tokens. The number says how many are left, the wrong one included: 0 at the end.
 #[derive(Debug, Clone, Copy, PartialEq, Eq)]
-pub enum Halt {
+pub enum Rejection {
     /// The token does not go on with a program.
     Syntax(usize),
     /// The token opens a bracket in too many others.
@@ -16,23 +16,23 @@ pub enum Halt {
 
 /// Why reading ends early: the tokens are wrong, or memory is wanting.
 #[derive(Debug, Clone, Copy, PartialEq, Eq)]
-pub enum Stop {
+pub enum ParseError {
     Memory,
-    Halt(Halt),
+    Rejection(Rejection),
 }
 
-impl From<AllocError> for Stop {
+impl From<AllocError> for ParseError {
     ghost from_gives = { λ _ e. e ≡ Memory };
 
-    fn from(_error: AllocError) -> Stop {
-        Stop::Memory
+    fn from(_error: AllocError) -> ParseError {
+        ParseError::Memory
     }
 }
 
-impl<T: Drop> From<AllocFailed<T>> for Stop {
+impl<T: Drop> From<AllocFailed<T>> for ParseError {
     ghost from_gives = { λ _ e. e ≡ Memory };
 
-    fn from(_error: AllocFailed<T>) -> Stop {
-        Stop::Memory
+    fn from(_error: AllocFailed<T>) -> ParseError {
+        ParseError::Memory
     }
 }

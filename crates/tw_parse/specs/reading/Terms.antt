@@ -3,37 +3,37 @@ use Rattle.tw_parse.specs.Trees.{named}
 use Rattle.std.specs.Prelude.{ℕ, zero, suc, Bool, ◌&&◌, ◌||◌, if◌then◌else◌, List, [], ◌∷◌, Option, Some, None, Ok, Err, ◌≡◌, codes, refl}
 use Rattle.tw_text.specs.declared.place.Pos.{Pos}
 use Rattle.tw_lex.specs.declared.symbol.Symbol.TheVariants as symbols
-use Rattle.tw_parse.specs.declared.stop.Halt.TheVariants.{Syntax, Nesting}
+use Rattle.tw_parse.specs.declared.error.Rejection.TheVariants.{Syntax, Nesting}
 use Rattle.tw_syntax.specs.declared.term.OpKind.{OpKind}
 use Rattle.tw_syntax.specs.declared.term.OpKind.TheVariants as kind
 use Rattle.tw_syntax.specs.Names.{NameTree, PathTree}
 use Rattle.tw_syntax.specs.Types.{WrittenTree, UnitType, UintType, BoolType, PairType, PtrType, NamedType}
 use Rattle.tw_syntax.specs.Terms.{AtomTree, PlaceAtom, NumberAtom, TrueAtom, FalseAtom, UnitAtom, NullAtom, ZeroAtom, ExprTree, OneExpr, TwoExpr, NotExpr, OpExpr, BoundTree, FixedBound, SameBound, LessBound, RhsTree, ExprRhs, CallRhs, AllocRhs}
 use Rattle.tw_lex.specs.Tokens.{Lexed, name_at, sign_at}
-use Rattle.tw_parse.specs.Steps.{Reader, ◌>>=◌, leads, leads_name, leads_number, behind, place_at, take_mark, take_open, take_name, take_number, take_small, take_half, all_at}
+use Rattle.tw_parse.specs.reading.Steps.{Reader, ◌>>=◌, leads, leads_name, leads_number, behind, place_at, take_symbol, take_open, take_name, take_number, take_bound_number, take_component, all_at}
 
 -- "<" type ">"
-unfoldable pub angle_with : Reader WrittenTree → ℕ → Reader WrittenTree
-angle_with inner room ts = do
+unfoldable pub type_argument_with : Reader WrittenTree → ℕ → Reader WrittenTree
+type_argument_with inner room ts = do
   less ← take_open symbols.Less room ts
   to ← inner less.1
-  more ← take_mark symbols.Greater to.1
+  more ← take_symbol symbols.Greater to.1
   Ok (to.0, more.1)
 
 -- "ptr" "<" type ">"
 unfoldable pub ptr_with : Reader WrittenTree → ℕ → Reader WrittenTree
 ptr_with inner room ts = do
-  at ← take_mark symbols.Ptr ts
-  to ← angle_with inner room at.1
+  at ← take_symbol symbols.Ptr ts
+  to ← type_argument_with inner room at.1
   Ok (PtrType at.0 to.0, to.1)
 
 -- type "," type ")", behind a "(" at a place
 unfoldable pub pair_with : Reader WrittenTree → Pos → Reader WrittenTree
 pair_with inner at ts = do
   first ← inner ts
-  comma ← take_mark symbols.Comma first.1
+  comma ← take_symbol symbols.Comma first.1
   second ← inner comma.1
-  close ← take_mark symbols.CloseParen second.1
+  close ← take_symbol symbols.CloseParen second.1
   Ok (PairType at first.0 second.0, close.1)
 
 -- "(" ")" | "(" type "," type ")"
@@ -41,16 +41,16 @@ unfoldable pub paren_with : Reader WrittenTree → ℕ → Reader WrittenTree
 paren_with inner room ts = do
   begin ← take_open symbols.OpenParen room ts
   if leads symbols.CloseParen begin.1 then (do
-    close ← take_mark symbols.CloseParen begin.1
+    close ← take_symbol symbols.CloseParen begin.1
     Ok (UnitType begin.0, close.1)) else pair_with inner begin.0 begin.1
 
 -- "uint" | "bool" | name
 unfoldable pub plain_type_at : Reader WrittenTree
 plain_type_at ts = if leads symbols.Uint ts then (do
-  at ← take_mark symbols.Uint ts
+  at ← take_symbol symbols.Uint ts
   Ok (UintType at.0, at.1))
     else if leads symbols.Bool ts then (do
-      at ← take_mark symbols.Bool ts
+      at ← take_symbol symbols.Bool ts
       Ok (BoolType at.0, at.1))
     else (do
       name ← take_name ts
@@ -69,8 +69,8 @@ type_at (suc room) ts = type_with (type_at room) room ts
 -- "." ( "1" | "2" )
 unfoldable pub step_at : Reader ℕ
 step_at ts = do
-  dot ← take_mark symbols.Dot ts
-  take_half dot.1
+  dot ← take_symbol symbols.Dot ts
+  take_component dot.1
 
 -- name { "." ( "1" | "2" ) }
 unfoldable pub path_at : Reader PathTree
@@ -83,30 +83,30 @@ path_at ts = do
 unfoldable pub unit_at : ℕ → Reader AtomTree
 unit_at room ts = do
   begin ← take_open symbols.OpenParen room ts
-  close ← take_mark symbols.CloseParen begin.1
+  close ← take_symbol symbols.CloseParen begin.1
   Ok (UnitAtom begin.0, close.1)
 
 -- "null" "<" type ">"
 unfoldable pub null_at : ℕ → Reader AtomTree
 null_at room ts = do
-  at ← take_mark symbols.Null ts
-  to ← angle_with (type_at room) room at.1
+  at ← take_symbol symbols.Null ts
+  to ← type_argument_with (type_at room) room at.1
   Ok (NullAtom at.0 to.0, to.1)
 
 -- "default" "<" type ">"
 unfoldable pub zero_at : ℕ → Reader AtomTree
 zero_at room ts = do
-  at ← take_mark symbols.Default ts
-  of ← angle_with (type_at room) room at.1
+  at ← take_symbol symbols.Default ts
+  of ← type_argument_with (type_at room) room at.1
   Ok (ZeroAtom at.0 of.0, of.1)
 
 -- path | number | "true" | "false"
 unfoldable pub plain_atom_at : Reader AtomTree
 plain_atom_at ts = if leads symbols.True ts then (do
-  at ← take_mark symbols.True ts
+  at ← take_symbol symbols.True ts
   Ok (TrueAtom at.0, at.1))
     else if leads symbols.False ts then (do
-      at ← take_mark symbols.False ts
+      at ← take_symbol symbols.False ts
       Ok (FalseAtom at.0, at.1))
     else if leads_number ts then (do
       at ← place_at ts
@@ -153,7 +153,7 @@ op_at at left room ts = operand_at (op_of ts) at left room ts
 -- "not" atom
 unfoldable pub not_at : ℕ → Reader ExprTree
 not_at room ts = do
-  at ← take_mark symbols.Not ts
+  at ← take_symbol symbols.Not ts
   atom ← atom_at (suc room) at.1
   Ok (NotExpr at.0 atom.0, atom.1)
 
@@ -161,9 +161,9 @@ not_at room ts = do
 unfoldable pub two_at : Pos → ℕ → Reader ExprTree
 two_at at room ts = do
   first ← atom_at room ts
-  comma ← take_mark symbols.Comma first.1
+  comma ← take_symbol symbols.Comma first.1
   second ← atom_at room comma.1
-  close ← take_mark symbols.CloseParen second.1
+  close ← take_symbol symbols.CloseParen second.1
   Ok (TwoExpr at first.0 second.0, close.1)
 
 -- "(" ")" [ op atom ] | "(" atom "," atom ")"
@@ -171,7 +171,7 @@ unfoldable pub paren_expr_at : ℕ → Reader ExprTree
 paren_expr_at room ts = do
   begin ← take_open symbols.OpenParen room ts
   if leads symbols.CloseParen begin.1 then (do
-    close ← take_mark symbols.CloseParen begin.1
+    close ← take_symbol symbols.CloseParen begin.1
     op_at begin.0 (UnitAtom begin.0) room close.1) else two_at begin.0 room begin.1
 
 -- atom [ op atom ]
@@ -191,28 +191,28 @@ unfoldable pub named_bound_at : Reader BoundTree
 named_bound_at ts = do
   name ← take_name ts
   if leads symbols.Minus name.1 then (do
-    minus ← take_mark symbols.Minus name.1
-    number ← take_small minus.1
+    minus ← take_symbol symbols.Minus name.1
+    number ← take_bound_number minus.1
     Ok (LessBound name.0 number.0, number.1)) else Ok (SameBound name.0, name.1)
 
 -- number | name [ "-" number ]
 unfoldable pub bound_at : Reader BoundTree
 bound_at ts = if leads_number ts then (do
-  number ← take_small ts
+  number ← take_bound_number ts
   Ok (FixedBound number.0, number.1)) else named_bound_at ts
 
 -- [ "[" bound "]" ]
 unfoldable pub call_bound_at : Reader (Option BoundTree)
 call_bound_at ts = if leads symbols.OpenBracket ts then (do
-  begin ← take_mark symbols.OpenBracket ts
+  begin ← take_symbol symbols.OpenBracket ts
   bound ← bound_at begin.1
-  close ← take_mark symbols.CloseBracket bound.1
+  close ← take_symbol symbols.CloseBracket bound.1
   Ok (Some bound.0, close.1)) else Ok (None, ts)
 
 -- "," name
 unfoldable pub comma_name_at : Reader NameTree
 comma_name_at ts = do
-  comma ← take_mark symbols.Comma ts
+  comma ← take_symbol symbols.Comma ts
   take_name comma.1
 
 -- [ name { "," name } ]
@@ -227,7 +227,7 @@ unfoldable pub args_at : ℕ → Reader (List NameTree)
 args_at room ts = do
   begin ← take_open symbols.OpenParen room ts
   names ← names_at begin.1
-  close ← take_mark symbols.CloseParen names.1
+  close ← take_symbol symbols.CloseParen names.1
   Ok (names.0, close.1)
 
 -- name [ "[" bound "]" ] "(" [ name { "," name } ] ")"
@@ -245,8 +245,8 @@ leads_call ts = leads_name ts && (leads symbols.OpenBracket (behind ts) || leads
 -- "alloc" "<" type ">"
 unfoldable pub alloc_at : ℕ → Reader RhsTree
 alloc_at room ts = do
-  at ← take_mark symbols.Alloc ts
-  of ← angle_with (type_at room) room at.1
+  at ← take_symbol symbols.Alloc ts
+  of ← type_argument_with (type_at room) room at.1
   Ok (AllocRhs of.0, of.1)
 
 unfoldable pub rhs_at : ℕ → Reader RhsTree
@@ -257,11 +257,11 @@ rhs_at room ts = if leads symbols.Alloc ts then alloc_at room ts
       Ok (ExprRhs expr.0, expr.1))
 
 pub type_at-ptr : (p q r s : Pos) → type_at 2 (sign_at symbols.Ptr p ∷ sign_at symbols.Less q ∷ sign_at symbols.Uint r ∷ sign_at symbols.Greater s ∷ []) ≡ Ok (PtrType p (UintType r), [])
-unfolding type_at type_with ptr_with angle_with plain_type_at
+unfolding type_at type_with ptr_with type_argument_with plain_type_at
 type_at-ptr p q r s = refl
 
 pub type_at-full : (p q r : Pos) → type_at 1 (sign_at symbols.Ptr p ∷ sign_at symbols.Less q ∷ sign_at symbols.Uint r ∷ []) ≡ Err (Nesting 2)
-unfolding type_at type_with ptr_with angle_with plain_type_at
+unfolding type_at type_with ptr_with type_argument_with plain_type_at
 type_at-full p q r = refl
 
 pub type_at-unit : (p q : Pos) → type_at 2 (sign_at symbols.OpenParen p ∷ sign_at symbols.CloseParen q ∷ []) ≡ Ok (UnitType p, [])

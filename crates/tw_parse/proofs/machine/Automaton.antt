@@ -4,8 +4,8 @@ use Rattle.tw_text.specs.declared.place.Pos.{Pos}
 use Rattle.tw_lex.specs.declared.symbol.Symbol.{Symbol}
 use Rattle.tw_lex.specs.declared.symbol.Symbol.TheVariants as symbols
 use Rattle.tw_lex.specs.Tokens.{Lexeme, Name, Number, Sign, Lexed, name_at, sign_at}
-use Rattle.tw_parse.specs.Whole.{closes}
-use Rattle.tw_parse.specs.Steps.{is_mark, is_step, is_small}
+use Rattle.tw_parse.specs.Prefixes.{closes}
+use Rattle.tw_parse.specs.reading.Steps.{is_symbol, is_component, is_bound_number}
 
 -- a mark that may be awaited alone: it opens no bracket, announces none, and goes on with no path
 abbrev pub stands_alone : Symbol → Bool
@@ -19,63 +19,63 @@ stands_alone symbols.Dot = false
 stands_alone mark = true
 
 -- what is awaited
-pub data N : Type 0 where
-  TheMark : (mark : Symbol) (alone : stands_alone mark ≡ true) → N
-  Name' : N
+pub data Expected : Type 0 where
+  TheMark : (mark : Symbol) (alone : stands_alone mark ≡ true) → Expected
+  Name' : Expected
   -- 1 or 2
-  Step' : N
+  Step' : Expected
   -- a number of at most 255
-  Small' : N
+  Small' : Expected
   -- "<" type ">"
-  Angled' : N
-  Type' : N
+  Angled' : Expected
+  Type' : Expected
   -- behind the "(" of a type: ")" | type "," type ")"
-  Paren' : N
-  Path' : N
+  Paren' : Expected
+  Path' : Expected
   -- { "." ( "1" | "2" ) }
-  Steps' : N
-  Atom' : N
-  Expr' : N
+  Steps' : Expected
+  Atom' : Expected
+  Expr' : Expected
   -- behind the "(" of an expression: ")" [ op atom ] | atom "," atom ")"
-  ExprParen' : N
+  ExprParen' : Expected
   -- [ op atom ]
-  OpTail' : N
-  Rhs' : N
+  OpTail' : Expected
+  Rhs' : Expected
   -- behind the name that a right side begins with: [ "[" bound "]" ] "(" .. ")" | steps [ op atom ]
-  AfterName' : N
-  Bound' : N
+  AfterName' : Expected
+  Bound' : Expected
   -- [ "-" number ]
-  BoundTail' : N
+  BoundTail' : Expected
   -- "(" [ name { "," name } ] ")"
-  CallArgs' : N
+  CallArgs' : Expected
   -- the same behind "("
-  Args' : N
+  Args' : Expected
   -- { "," name } ")"
-  MoreArgs' : N
-  Stmt' : N
+  MoreArgs' : Expected
+  Stmt' : Expected
   -- "<-" | "->"
-  LetArrow' : N
+  LetArrow' : Expected
   -- { stmt } "}"
-  Stmts' : N
+  Stmts' : Expected
   -- [ "else" block ]
-  ElseTail' : N
-  Block' : N
+  ElseTail' : Expected
+  Block' : Expected
   -- { stmt } "return" name ";" "}"
-  Body' : N
+  Body' : Expected
   -- "{" body
-  FunBody' : N
+  FunBody' : Expected
   -- [ "[" name "]" ] "(" .. ")"
-  AfterFunName' : N
+  AfterFunName' : Expected
   -- "(" [ param { "," param } ] ")"
-  FunParams' : N
+  FunParams' : Expected
   -- the same behind "("
-  Params' : N
+  Params' : Expected
   -- { "," param } ")"
-  MoreParams' : N
-  Decl' : N
+  MoreParams' : Expected
+  Decl' : Expected
 
 -- these tokens may be none
-abbrev pub is_nullable : N → Bool
+abbrev pub is_nullable : Expected → Bool
 is_nullable Steps' = true
 is_nullable OpTail' = true
 is_nullable AfterName' = true
@@ -86,11 +86,11 @@ is_nullable n = false
 -- what becomes of a token, and what is awaited behind it
 pub data Next : Type 0 where
   -- it is taken
-  Take : (stack : List N) → Next
+  Take : (stack : List Expected) → Next
   -- it is taken, and opens a bracket
-  Open : (stack : List N) → Next
+  Open : (stack : List Expected) → Next
   -- it is taken, and closes a bracket
-  Shut : (stack : List N) → Next
+  Shut : (stack : List Expected) → Next
   -- it belongs to what is awaited behind
   Pop : Next
   -- it may not stand here
@@ -100,16 +100,16 @@ abbrev pub when : Bool → Next → Next
 when true next = next
 when false next = Stop
 
-abbrev pub taken_mark : Bool → List N → Next
+abbrev pub taken_mark : Bool → List Expected → Next
 taken_mark true st = Shut st
 taken_mark false st = Take st
 
-abbrev pub next_mark : Symbol → Lexeme → List N → Next
-next_mark mark w st = when (is_mark mark w) (taken_mark (closes (Sign mark)) st)
+abbrev pub next_mark : Symbol → Lexeme → List Expected → Next
+next_mark mark w st = when (is_symbol mark w) (taken_mark (closes (Sign mark)) st)
 
 -- what a word makes of a type, an atom, an expression, what may follow an atom, and a statement: the table below has
 -- each of them more than once
-abbrev pub next_type : Lexeme → List N → Next
+abbrev pub next_type : Lexeme → List Expected → Next
 next_type (Sign symbols.Uint) st = Take st
 next_type (Sign symbols.Bool) st = Take st
 next_type (Name text) st = Take st
@@ -117,7 +117,7 @@ next_type (Sign symbols.Ptr) st = Take (Angled' ∷ st)
 next_type (Sign symbols.OpenParen) st = Open (Paren' ∷ st)
 next_type w st = Stop
 
-abbrev pub next_atom : Lexeme → List N → Next
+abbrev pub next_atom : Lexeme → List Expected → Next
 next_atom (Name text) st = Take (Steps' ∷ st)
 next_atom (Number value) st = Take st
 next_atom (Sign symbols.True) st = Take st
@@ -127,12 +127,12 @@ next_atom (Sign symbols.Null) st = Take (Angled' ∷ st)
 next_atom (Sign symbols.Default) st = Take (Angled' ∷ st)
 next_atom w st = Stop
 
-abbrev pub next_expr : Lexeme → List N → Next
+abbrev pub next_expr : Lexeme → List Expected → Next
 next_expr (Sign symbols.Not) st = Take (Atom' ∷ st)
 next_expr (Sign symbols.OpenParen) st = Open (ExprParen' ∷ st)
 next_expr w st = next_atom w (OpTail' ∷ st)
 
-abbrev pub next_op_tail : Lexeme → List N → Next
+abbrev pub next_op_tail : Lexeme → List Expected → Next
 next_op_tail (Sign symbols.Plus) st = Take (Atom' ∷ st)
 next_op_tail (Sign symbols.Minus) st = Take (Atom' ∷ st)
 next_op_tail (Sign symbols.Star) st = Take (Atom' ∷ st)
@@ -143,7 +143,7 @@ next_op_tail (Sign symbols.And) st = Take (Atom' ∷ st)
 next_op_tail (Sign symbols.Or) st = Take (Atom' ∷ st)
 next_op_tail w st = Pop
 
-abbrev pub next_stmt : Lexeme → List N → Next
+abbrev pub next_stmt : Lexeme → List Expected → Next
 next_stmt (Sign symbols.Let) st = Take (Name' ∷ LetArrow' ∷ Rhs' ∷ TheMark symbols.Semicolon refl ∷ st)
 next_stmt (Name text) st = Take (Steps' ∷ TheMark symbols.Swap refl ∷ Path' ∷ TheMark symbols.Semicolon refl ∷ st)
 next_stmt (Sign symbols.Star) st = Take (Path' ∷ TheMark symbols.Swap refl ∷ Path' ∷ TheMark symbols.Semicolon refl ∷ st)
@@ -154,13 +154,13 @@ next_stmt (Sign symbols.Skip) st = Take (TheMark symbols.Semicolon refl ∷ st)
 next_stmt w st = Stop
 
 -- what a word makes of the first that is awaited, with what is awaited behind it
-abbrev pub next : N → Lexeme → List N → Next
+abbrev pub next : Expected → Lexeme → List Expected → Next
 next (TheMark mark alone) w st = next_mark mark w st
 next Name' (Name text) st = Take st
 next Name' w st = Stop
-next Step' (Number value) st = when (is_step value) (Take st)
+next Step' (Number value) st = when (is_component value) (Take st)
 next Step' w st = Stop
-next Small' (Number value) st = when (is_small value) (Take st)
+next Small' (Number value) st = when (is_bound_number value) (Take st)
 next Small' w st = Stop
 next Angled' (Sign symbols.Less) st = Open (Type' ∷ TheMark symbols.Greater refl ∷ st)
 next Angled' w st = Stop
@@ -183,7 +183,7 @@ next AfterName' (Sign symbols.Dot) st = Take (Step' ∷ Steps' ∷ OpTail' ∷ s
 next AfterName' (Sign symbols.OpenBracket) st = Take (Bound' ∷ TheMark symbols.CloseBracket refl ∷ CallArgs' ∷ st)
 next AfterName' (Sign symbols.OpenParen) st = Open (Args' ∷ st)
 next AfterName' w st = next_op_tail w st
-next Bound' (Number value) st = when (is_small value) (Take st)
+next Bound' (Number value) st = when (is_bound_number value) (Take st)
 next Bound' (Name text) st = Take (BoundTail' ∷ st)
 next Bound' w st = Stop
 next BoundTail' (Sign symbols.Minus) st = Take (Small' ∷ st)
@@ -231,7 +231,7 @@ settled Pop behind = behind
 settled now behind = now
 
 -- what a word makes of a stack; behind a program a further declaration may stand
-abbrev pub move : Lexeme → List N → Next
+abbrev pub move : Lexeme → List Expected → Next
 move w [] = next Decl' w []
 move w (n ∷ st) = settled (next n w st) (move w st)
 
@@ -246,12 +246,12 @@ left_at_end true behind = behind
 left_at_end false behind = Fail 0
 
 -- what the end of the tokens makes of a stack: no token of what is awaited may be missing
-abbrev pub at_end : List N → Outcome
+abbrev pub at_end : List Expected → Outcome
 at_end [] = Accept
 at_end (n ∷ st) = left_at_end (is_nullable n) (at_end st)
 
 -- how a move goes on, with room for so many more brackets, where so many tokens are left
-abbrev pub went : Next → ℕ → (ℕ → List N → Outcome) → ℕ → Outcome
+abbrev pub went : Next → ℕ → (ℕ → List Expected → Outcome) → ℕ → Outcome
 went (Take st) room go left = go room st
 went (Open st) zero go left = Deep left
 went (Open st) (suc room) go left = go room st
@@ -260,7 +260,7 @@ went Pop room go left = Fail left
 went Stop room go left = Fail left
 
 -- what tokens come to, with room for so many more brackets, where these are awaited
-abbrev pub run : List Lexed → ℕ → List N → Outcome
+abbrev pub run : List Lexed → ℕ → List Expected → Outcome
 run [] room st = at_end st
 run (t ∷ ts) room st = went (move t.lexeme st) room (run ts) (suc (length ts))
 

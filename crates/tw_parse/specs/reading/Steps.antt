@@ -5,10 +5,10 @@ use Rattle.tw_lex.specs.declared.symbol.Symbol.{Symbol}
 use Rattle.tw_lex.specs.declared.symbol.Symbol.TheVariants as symbols
 use Rattle.tw_lex.specs.declared.token.Token.{Token}
 use Rattle.tw_lex.specs.Scans.{seen}
-use Rattle.tw_parse.specs.declared.stop.Halt.{Halt}
-use Rattle.tw_parse.specs.declared.stop.Halt.TheVariants.{Syntax, Nesting}
-use Rattle.tw_parse.specs.declared.stop.Stop.{Stop}
-use Rattle.tw_parse.specs.declared.stop.Stop.TheVariants as stop
+use Rattle.tw_parse.specs.declared.error.Rejection.{Rejection}
+use Rattle.tw_parse.specs.declared.error.Rejection.TheVariants.{Syntax, Nesting}
+use Rattle.tw_parse.specs.declared.error.ParseError.{ParseError}
+use Rattle.tw_parse.specs.declared.error.ParseError.TheVariants as error
 use Rattle.tw_syntax.specs.Names.{NameTree}
 use Rattle.tw_lex.specs.Tokens.{Lexeme, Name, Number, Sign, Lexed, name_at, number_at, sign_at}
 use Rattle.tw_parse.specs.Trees.{named}
@@ -19,71 +19,71 @@ toks tokens = map seen tokens
 
 -- what is read, and the tokens behind it
 abbrev pub Reader : Type 0 → Type 0
-Reader X = List Lexed → Result (X × List Lexed) Halt
+Reader X = List Lexed → Result (X × List Lexed) Rejection
 
 infixl 10 ◌>>=◌
-abbrev pub ◌>>=◌ : {A B : Type 0} → Result A Halt → (A → Result B Halt) → Result B Halt
+abbrev pub ◌>>=◌ : {A B : Type 0} → Result A Rejection → (A → Result B Rejection) → Result B Rejection
 (Ok x) >>= f = f x
 (Err e) >>= f = Err e
 
 -- what a function returned, seen by view, is what reading gives, unless memory ran out
-abbrev pub Fails : {Y : Type 0} → Stop → Result Y Halt → Type 0
-Fails stop.Memory read = Unit {0}
-Fails (stop.Halt halt) read = read ≡ Err halt
+abbrev pub Fails : {Y : Type 0} → ParseError → Result Y Rejection → Type 0
+Fails error.Memory read = Unit {0}
+Fails (error.Rejection halt) read = read ≡ Err halt
 
-abbrev pub Gives : {X Y : Type 0} → (X → Y) → Result X Stop → Result Y Halt → Type 0
-Gives view (Ok x) read = read ≡ Ok (view x)
-Gives view (Err e) read = Fails e read
+abbrev pub Returns : {X Y : Type 0} → (X → Y) → Result X ParseError → Result Y Rejection → Type 0
+Returns view (Ok x) read = read ≡ Ok (view x)
+Returns view (Err e) read = Fails e read
 
 -- each mark has a number of its own
-abbrev pub mark_number : Symbol → ℕ
-mark_number symbols.Swap = 0
-mark_number symbols.Assign = 1
-mark_number symbols.Less = 2
-mark_number symbols.Arrow = 3
-mark_number symbols.Minus = 4
-mark_number symbols.Equal = 5
-mark_number symbols.Define = 6
-mark_number symbols.NotEqual = 7
-mark_number symbols.And = 8
-mark_number symbols.Or = 9
-mark_number symbols.Greater = 10
-mark_number symbols.OpenParen = 11
-mark_number symbols.CloseParen = 12
-mark_number symbols.OpenBrace = 13
-mark_number symbols.CloseBrace = 14
-mark_number symbols.OpenBracket = 15
-mark_number symbols.CloseBracket = 16
-mark_number symbols.Comma = 17
-mark_number symbols.Semicolon = 18
-mark_number symbols.Colon = 19
-mark_number symbols.Dot = 20
-mark_number symbols.Plus = 21
-mark_number symbols.Star = 22
-mark_number symbols.Type = 23
-mark_number symbols.True = 24
-mark_number symbols.False = 25
-mark_number symbols.Fun = 26
-mark_number symbols.Return = 27
-mark_number symbols.Let = 28
-mark_number symbols.If = 29
-mark_number symbols.Else = 30
-mark_number symbols.With = 31
-mark_number symbols.Default = 32
-mark_number symbols.Do = 33
-mark_number symbols.Skip = 34
-mark_number symbols.Uint = 35
-mark_number symbols.Bool = 36
-mark_number symbols.Ptr = 37
-mark_number symbols.Null = 38
-mark_number symbols.Not = 39
-mark_number symbols.Alloc = 40
+abbrev pub symbol_number : Symbol → ℕ
+symbol_number symbols.Swap = 0
+symbol_number symbols.Assign = 1
+symbol_number symbols.Less = 2
+symbol_number symbols.Arrow = 3
+symbol_number symbols.Minus = 4
+symbol_number symbols.Equal = 5
+symbol_number symbols.Define = 6
+symbol_number symbols.NotEqual = 7
+symbol_number symbols.And = 8
+symbol_number symbols.Or = 9
+symbol_number symbols.Greater = 10
+symbol_number symbols.OpenParen = 11
+symbol_number symbols.CloseParen = 12
+symbol_number symbols.OpenBrace = 13
+symbol_number symbols.CloseBrace = 14
+symbol_number symbols.OpenBracket = 15
+symbol_number symbols.CloseBracket = 16
+symbol_number symbols.Comma = 17
+symbol_number symbols.Semicolon = 18
+symbol_number symbols.Colon = 19
+symbol_number symbols.Dot = 20
+symbol_number symbols.Plus = 21
+symbol_number symbols.Star = 22
+symbol_number symbols.Type = 23
+symbol_number symbols.True = 24
+symbol_number symbols.False = 25
+symbol_number symbols.Fun = 26
+symbol_number symbols.Return = 27
+symbol_number symbols.Let = 28
+symbol_number symbols.If = 29
+symbol_number symbols.Else = 30
+symbol_number symbols.With = 31
+symbol_number symbols.Default = 32
+symbol_number symbols.Do = 33
+symbol_number symbols.Skip = 34
+symbol_number symbols.Uint = 35
+symbol_number symbols.Bool = 36
+symbol_number symbols.Ptr = 37
+symbol_number symbols.Null = 38
+symbol_number symbols.Not = 39
+symbol_number symbols.Alloc = 40
 
 -- whether a word is this mark
-abbrev pub is_mark : Symbol → Lexeme → Bool
-is_mark mark (Sign given) = mark_number given == mark_number mark
-is_mark mark (Name text) = false
-is_mark mark (Number value) = false
+abbrev pub is_symbol : Symbol → Lexeme → Bool
+is_symbol mark (Sign given) = symbol_number given == symbol_number mark
+is_symbol mark (Name text) = false
+is_symbol mark (Number value) = false
 
 abbrev pub is_name : Lexeme → Bool
 is_name (Name text) = true
@@ -96,17 +96,17 @@ is_number (Number value) = true
 is_number (Sign mark) = false
 
 -- a step of a path goes to the first part or to the second
-abbrev pub is_step : ℕ → Bool
-is_step value = value == 1 || value == 2
+abbrev pub is_component : ℕ → Bool
+is_component value = value == 1 || value == 2
 
 -- a bound's number is at most 255
-abbrev pub is_small : ℕ → Bool
-is_small value = nat_lt value 256
+abbrev pub is_bound_number : ℕ → Bool
+is_bound_number value = nat_lt value 256
 
 -- whether the first token is this mark
 abbrev pub leads : Symbol → List Lexed → Bool
 leads mark [] = false
-leads mark (t ∷ ts) = is_mark mark t.lexeme
+leads mark (t ∷ ts) = is_symbol mark t.lexeme
 
 abbrev pub leads_name : List Lexed → Bool
 leads_name [] = false
@@ -122,23 +122,23 @@ behind [] = []
 behind (t ∷ ts) = ts
 
 -- the place of the first token
-abbrev pub place_at : List Lexed → Result Pos Halt
+abbrev pub place_at : List Lexed → Result Pos Rejection
 place_at [] = Err (Syntax 0)
 place_at (t ∷ ts) = Ok t.at
 
 -- this mark, and its place
-abbrev pub take_mark : Symbol → Reader Pos
-take_mark mark [] = Err (Syntax 0)
-take_mark mark (t ∷ ts) = if is_mark mark t.lexeme then Ok (t.at, ts) else Err (Syntax (suc (length ts)))
+abbrev pub take_symbol : Symbol → Reader Pos
+take_symbol mark [] = Err (Syntax 0)
+take_symbol mark (t ∷ ts) = if is_symbol mark t.lexeme then Ok (t.at, ts) else Err (Syntax (suc (length ts)))
 
 -- this mark, which opens a bracket, where there is room for one
 abbrev pub take_open : Symbol → ℕ → Reader Pos
 take_open mark room ts = do
-  at ← take_mark mark ts
+  at ← take_symbol mark ts
   if room == 0 then Err (Nesting (length ts)) else Ok at
 
 -- a name, from a word at a place; the number says how many tokens are left
-abbrev pub name_from : Lexeme → Pos → ℕ → List Lexed → Result (NameTree × List Lexed) Halt
+abbrev pub name_from : Lexeme → Pos → ℕ → List Lexed → Result (NameTree × List Lexed) Rejection
 name_from (Name text) at left ts = Ok (named text at, ts)
 name_from (Number value) at left ts = Err (Syntax left)
 name_from (Sign mark) at left ts = Err (Syntax left)
@@ -148,7 +148,7 @@ take_name [] = Err (Syntax 0)
 take_name (t ∷ ts) = name_from t.lexeme t.at (suc (length ts)) ts
 
 -- a number, likewise
-abbrev pub number_from : Lexeme → ℕ → List Lexed → Result (ℕ × List Lexed) Halt
+abbrev pub number_from : Lexeme → ℕ → List Lexed → Result (ℕ × List Lexed) Rejection
 number_from (Number value) left ts = Ok (value, ts)
 number_from (Name text) left ts = Err (Syntax left)
 number_from (Sign mark) left ts = Err (Syntax left)
@@ -158,16 +158,16 @@ take_number [] = Err (Syntax 0)
 take_number (t ∷ ts) = number_from t.lexeme (suc (length ts)) ts
 
 -- a number of at most 255
-unfoldable pub take_small : Reader ℕ
-take_small ts = do
+unfoldable pub take_bound_number : Reader ℕ
+take_bound_number ts = do
   number ← take_number ts
-  if is_small number.0 then Ok number else Err (Syntax (length ts))
+  if is_bound_number number.0 then Ok number else Err (Syntax (length ts))
 
 -- the number 1 or 2
-unfoldable pub take_half : Reader ℕ
-take_half ts = do
+unfoldable pub take_component : Reader ℕ
+take_component ts = do
   number ← take_number ts
-  if is_step number.0 then Ok number else Err (Syntax (length ts))
+  if is_component number.0 then Ok number else Err (Syntax (length ts))
 
 -- items as long as the tokens ask for one, so many at the most
 unfoldable pub many_at : {X : Type 0} → (List Lexed → Bool) → Reader X → ℕ → Reader (List X)
@@ -182,7 +182,7 @@ abbrev pub all_at : {X : Type 0} → (List Lexed → Bool) → Reader X → Read
 all_at goes item ts = many_at goes item (length ts) ts
 
 -- an item before those that are read
-abbrev pub put_first : {X : Type 0} → X → Result (List X × List Lexed) Halt → Result (List X × List Lexed) Halt
+abbrev pub put_first : {X : Type 0} → X → Result (List X × List Lexed) Rejection → Result (List X × List Lexed) Rejection
 put_first first read = read >>= λ rest. Ok (first ∷ rest.0, rest.1)
 
 pub leads-mark : (at : Pos) → leads symbols.Dot (sign_at symbols.Dot at ∷ []) ≡ true
@@ -191,26 +191,26 @@ leads-mark at = refl
 pub leads-name : (at : Pos) → leads symbols.Dot (name_at (codes "x") at ∷ []) ≡ false
 leads-name at = refl
 
-pub take_mark-other : (at : Pos) → take_mark symbols.Dot (sign_at symbols.Comma at ∷ []) ≡ Err (Syntax 1)
-take_mark-other at = refl
+pub take_symbol-other : (at : Pos) → take_symbol symbols.Dot (sign_at symbols.Comma at ∷ []) ≡ Err (Syntax 1)
+take_symbol-other at = refl
 
-pub take_mark-end : take_mark symbols.Dot [] ≡ Err (Syntax 0)
-take_mark-end = refl
+pub take_symbol-end : take_symbol symbols.Dot [] ≡ Err (Syntax 0)
+take_symbol-end = refl
 
 pub take_open-full : (at : Pos) → take_open symbols.OpenParen 0 (sign_at symbols.OpenParen at ∷ []) ≡ Err (Nesting 1)
 take_open-full at = refl
 
-pub take_small-greatest : (at : Pos) → take_small (number_at 255 at ∷ []) ≡ Ok (255, [])
-unfolding take_small
-take_small-greatest at = refl
+pub take_bound_number-greatest : (at : Pos) → take_bound_number (number_at 255 at ∷ []) ≡ Ok (255, [])
+unfolding take_bound_number
+take_bound_number-greatest at = refl
 
-pub take_small-above : (at : Pos) → take_small (number_at 256 at ∷ []) ≡ Err (Syntax 1)
-unfolding take_small
-take_small-above at = refl
+pub take_bound_number-above : (at : Pos) → take_bound_number (number_at 256 at ∷ []) ≡ Err (Syntax 1)
+unfolding take_bound_number
+take_bound_number-above at = refl
 
-pub take_half-third : (at : Pos) → take_half (number_at 3 at ∷ []) ≡ Err (Syntax 1)
-unfolding take_half
-take_half-third at = refl
+pub take_component-third : (at : Pos) → take_component (number_at 3 at ∷ []) ≡ Err (Syntax 1)
+unfolding take_component
+take_component-third at = refl
 
 pub many_at-names : (at : Pos) → many_at leads_name take_name 2 (name_at (codes "x") at ∷ []) ≡ Ok (named (codes "x") at ∷ [], [])
 unfolding many_at

@@ -1,40 +1,42 @@
 -- What statements, functions, declarations and programs take from the tokens.
 use Rattle.tw_parse.specs.Trees.{named}
 use Rattle.std.specs.Prelude.{ℕ, zero, suc, Bool, true, false, not, if◌then◌else◌, List, [], ◌∷◌, Option, Some, None, Result, Ok, Err, ◌≡◌, codes, refl}
+use Rattle.tw_text.specs.declared.refusal.Counted.TheVariants as counted
+use Rattle.tw_text.specs.Limits.{limit_of}
 use Rattle.tw_text.specs.declared.place.Pos.{Pos}
 use Rattle.tw_lex.specs.declared.symbol.Symbol.{Symbol}
 use Rattle.tw_lex.specs.declared.symbol.Symbol.TheVariants as symbols
-use Rattle.tw_parse.specs.declared.stop.Halt.{Halt}
-use Rattle.tw_parse.specs.declared.stop.Halt.TheVariants.{Syntax, Nesting}
+use Rattle.tw_parse.specs.declared.error.Rejection.{Rejection}
+use Rattle.tw_parse.specs.declared.error.Rejection.TheVariants.{Syntax, Nesting}
 use Rattle.tw_syntax.specs.Names.{NameTree, PathTree}
 use Rattle.tw_syntax.specs.Types.{WrittenTree, UintType}
 use Rattle.tw_syntax.specs.Terms.{RhsTree}
 use Rattle.tw_syntax.specs.Statements.{StmtTree, Nothing, Then, Else, LetStmt, SwapStmt, MemSwapStmt, IfStmt, WithStmt, BlockStmt, SkipStmt}
 use Rattle.tw_syntax.specs.Programs.{ParamTree, FunTree, AliasTree, DeclTree, AliasDecl, FunDecl, ProgramTree}
 use Rattle.tw_lex.specs.Tokens.{Lexed, name_at, sign_at}
-use Rattle.tw_parse.specs.Steps.{Reader, ◌>>=◌, leads, leads_name, place_at, take_mark, take_open, take_name, all_at, many_at}
-use Rattle.tw_parse.specs.Reading.{type_at, path_at, rhs_at, type_with, plain_type_at}
+use Rattle.tw_parse.specs.reading.Steps.{Reader, ◌>>=◌, leads, leads_name, place_at, take_symbol, take_open, take_name, all_at, many_at}
+use Rattle.tw_parse.specs.reading.Terms.{type_at, path_at, rhs_at, type_with, plain_type_at}
 
 -- "<-", which is true, or "->", which is false
 unfoldable pub direction_at : Reader Bool
 direction_at ts = if leads symbols.Assign ts then (do
-  gets ← take_mark symbols.Assign ts
+  gets ← take_symbol symbols.Assign ts
   Ok (true, gets.1))
     else (do
-      arrow ← take_mark symbols.Arrow ts
+      arrow ← take_symbol symbols.Arrow ts
       Ok (false, arrow.1))
 
 -- rhs ";"
 unfoldable pub rhs_end_at : ℕ → Reader RhsTree
 rhs_end_at room ts = do
   rhs ← rhs_at room ts
-  end ← take_mark symbols.Semicolon rhs.1
+  end ← take_symbol symbols.Semicolon rhs.1
   Ok (rhs.0, end.1)
 
 -- "let" name ( "<-" | "->" ) rhs ";"
 unfoldable pub let_at : ℕ → Reader StmtTree
 let_at room ts = do
-  at ← take_mark symbols.Let ts
+  at ← take_symbol symbols.Let ts
   name ← take_name at.1
   forward ← direction_at name.1
   rhs ← rhs_end_at room forward.1
@@ -43,9 +45,9 @@ let_at room ts = do
 -- "<->" path ";"
 unfoldable pub exchange_at : Reader PathTree
 exchange_at ts = do
-  exchange ← take_mark symbols.Swap ts
+  exchange ← take_symbol symbols.Swap ts
   path ← path_at exchange.1
-  end ← take_mark symbols.Semicolon path.1
+  end ← take_symbol symbols.Semicolon path.1
   Ok (path.0, end.1)
 
 -- path "<->" path ";"
@@ -58,7 +60,7 @@ swap_at ts = do
 -- "*" path "<->" path ";"
 unfoldable pub mem_swap_at : Reader StmtTree
 mem_swap_at ts = do
-  at ← take_mark symbols.Star ts
+  at ← take_symbol symbols.Star ts
   pointer ← path_at at.1
   value ← exchange_at pointer.1
   Ok (MemSwapStmt at.0 pointer.0 value.0, value.1)
@@ -66,8 +68,8 @@ mem_swap_at ts = do
 -- "skip" ";"
 unfoldable pub skip_at : Reader StmtTree
 skip_at ts = do
-  at ← take_mark symbols.Skip ts
-  end ← take_mark symbols.Semicolon at.1
+  at ← take_symbol symbols.Skip ts
+  end ← take_symbol symbols.Semicolon at.1
   Ok (SkipStmt at.0, end.1)
 
 -- statements as one tree
@@ -84,7 +86,7 @@ unfoldable pub block_with : Reader StmtTree → ℕ → Reader (List StmtTree)
 block_with inner room ts = do
   begin ← take_open symbols.OpenBrace room ts
   stmts ← all_at (goes_before symbols.CloseBrace) inner begin.1
-  close ← take_mark symbols.CloseBrace stmts.1
+  close ← take_symbol symbols.CloseBrace stmts.1
   Ok (stmts.0, close.1)
 
 unfoldable pub block_stmt_with : Reader StmtTree → ℕ → Reader StmtTree
@@ -96,14 +98,14 @@ block_stmt_with inner room ts = do
 -- [ "else" block ]
 unfoldable pub else_with : Reader StmtTree → ℕ → Reader StmtTree
 else_with inner room ts = if leads symbols.Else ts then (do
-  at ← take_mark symbols.Else ts
+  at ← take_symbol symbols.Else ts
   block ← block_with inner room at.1
   Ok (Else at.0 (chain block.0), block.1)) else Ok (Nothing, ts)
 
 -- "if" path block [ "else" block ]
 unfoldable pub if_with : Reader StmtTree → ℕ → Reader StmtTree
 if_with inner room ts = do
-  at ← take_mark symbols.If ts
+  at ← take_symbol symbols.If ts
   cond ← path_at at.1
   body ← block_with inner room cond.1
   other ← else_with inner room body.1
@@ -112,9 +114,9 @@ if_with inner room ts = do
 -- "with" block "do" block
 unfoldable pub with_with : Reader StmtTree → ℕ → Reader StmtTree
 with_with inner room ts = do
-  at ← take_mark symbols.With ts
+  at ← take_symbol symbols.With ts
   setup ← block_with inner room at.1
-  mid ← take_mark symbols.Do setup.1
+  mid ← take_symbol symbols.Do setup.1
   work ← block_with inner room mid.1
   Ok (WithStmt at.0 (chain setup.0) (chain work.0), work.1)
 
@@ -140,14 +142,14 @@ stmt_at (suc room) ts = stmt_with (stmt_at room) room ts
 unfoldable pub param_with : Reader WrittenTree → Reader ParamTree
 param_with inner ts = do
   name ← take_name ts
-  colon ← take_mark symbols.Colon name.1
+  colon ← take_symbol symbols.Colon name.1
   ty ← inner colon.1
   Ok (record { name = name.0; ty = ty.0 }, ty.1)
 
 -- "," param
 unfoldable pub comma_param_with : Reader WrittenTree → Reader ParamTree
 comma_param_with inner ts = do
-  comma ← take_mark symbols.Comma ts
+  comma ← take_symbol symbols.Comma ts
   param_with inner comma.1
 
 -- [ param { "," param } ]
@@ -162,15 +164,15 @@ unfoldable pub params_at : ℕ → Reader (List ParamTree)
 params_at room ts = do
   begin ← take_open symbols.OpenParen room ts
   params ← param_list_with (type_at room) begin.1
-  close ← take_mark symbols.CloseParen params.1
+  close ← take_symbol symbols.CloseParen params.1
   Ok (params.0, close.1)
 
 -- [ "[" name "]" ]
 unfoldable pub fun_bound_at : Reader (Option NameTree)
 fun_bound_at ts = if leads symbols.OpenBracket ts then (do
-  begin ← take_mark symbols.OpenBracket ts
+  begin ← take_symbol symbols.OpenBracket ts
   name ← take_name begin.1
-  close ← take_mark symbols.CloseBracket name.1
+  close ← take_symbol symbols.CloseBracket name.1
   Ok (Some name.0, close.1)) else Ok (None, ts)
 
 -- a function's name and bound
@@ -196,7 +198,7 @@ pub record Body : Type 0 where
 -- "fun" name [ "[" name "]" ]
 unfoldable pub title_at : Reader Title
 title_at ts = do
-  at ← take_mark symbols.Fun ts
+  at ← take_symbol symbols.Fun ts
   name ← take_name at.1
   bound ← fun_bound_at name.1
   Ok (record { name = name.0; bound = bound.0 }, bound.1)
@@ -205,16 +207,16 @@ title_at ts = do
 unfoldable pub interface_at : ℕ → Reader Interface
 interface_at room ts = do
   params ← params_at room ts
-  arrow ← take_mark symbols.Arrow params.1
+  arrow ← take_symbol symbols.Arrow params.1
   result ← type_at (suc room) arrow.1
   Ok (record { params = params.0; result = result.0 }, result.1)
 
 -- "return" name ";"
 unfoldable pub return_at : Reader Return
 return_at ts = do
-  at ← take_mark symbols.Return ts
+  at ← take_symbol symbols.Return ts
   name ← take_name at.1
-  end ← take_mark symbols.Semicolon name.1
+  end ← take_symbol symbols.Semicolon name.1
   Ok (record { at = at.0; name = name.0 }, end.1)
 
 -- "{" { stmt } "return" name ";" "}"
@@ -223,7 +225,7 @@ body_at room ts = do
   begin ← take_open symbols.OpenBrace room ts
   stmts ← all_at (goes_before symbols.Return) (stmt_at room) begin.1
   last ← return_at stmts.1
-  close ← take_mark symbols.CloseBrace last.1
+  close ← take_symbol symbols.CloseBrace last.1
   Ok (record { stmts = stmts.0; last = last.0 }, close.1)
 
 abbrev pub fun_from : Title → Interface → Body → FunTree
@@ -249,15 +251,15 @@ fun_at room ts = do
 unfoldable pub type_end_at : ℕ → Reader WrittenTree
 type_end_at room ts = do
   body ← type_at (suc room) ts
-  end ← take_mark symbols.Semicolon body.1
+  end ← take_symbol symbols.Semicolon body.1
   Ok (body.0, end.1)
 
 -- "type" name "=" type ";"
 unfoldable pub alias_at : ℕ → Reader AliasTree
 alias_at room ts = do
-  at ← take_mark symbols.Type ts
+  at ← take_symbol symbols.Type ts
   name ← take_name at.1
-  is ← take_mark symbols.Define name.1
+  is ← take_symbol symbols.Define name.1
   body ← type_end_at room is.1
   Ok (record { name = name.0; body = body.0 }, body.1)
 
@@ -275,15 +277,15 @@ is_more [] = false
 is_more (t ∷ ts) = true
 
 -- decl { decl }, up to the end
-unfoldable pub program_at : ℕ → List Lexed → Result ProgramTree Halt
+unfoldable pub program_at : ℕ → List Lexed → Result ProgramTree Rejection
 program_at room ts = do
   first ← decl_at room ts
   more ← all_at is_more (decl_at room) first.1
   Ok (record { decls = first.0 ∷ more.0 })
 
--- a program, in which 64 brackets may be open
-abbrev pub whole_at : List Lexed → Result ProgramTree Halt
-whole_at ts = program_at 64 ts
+-- a program, in which brackets may be open up to their limit
+abbrev pub whole_at : List Lexed → Result ProgramTree Rejection
+whole_at ts = program_at (limit_of counted.Nesting) ts
 
 pub stmt_at-block : (p q r s : Pos) → stmt_at 2 (sign_at symbols.OpenBrace p ∷ sign_at symbols.Skip q ∷ sign_at symbols.Semicolon r ∷ sign_at symbols.CloseBrace s ∷ [])
     ≡ Ok (BlockStmt p (Then (SkipStmt q) Nothing), [])

@@ -9,7 +9,7 @@ use Rattle.tw_parse.specs.declared.functions.Title.{Title as GivenTitle}
 use Rattle.tw_parse.specs.declared.functions.Interface.{Interface as GivenInterface}
 use Rattle.tw_parse.specs.declared.functions.Return.{Return as GivenReturn}
 use Rattle.tw_parse.specs.declared.functions.Body.{Body as GivenBody}
-use Rattle.tw_parse.specs.ReadingStatements.{Title, Interface, Return, Body}
+use Rattle.tw_parse.specs.reading.Statements.{Title, Interface, Return, Body}
 
 abbrev pub title_of : GivenTitle → Title
 title_of x = record { name = name_tree x.name; bound = option_map name_tree x.bound }
