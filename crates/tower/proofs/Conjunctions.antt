@@ -1,5 +1,5 @@
 -- A program of the form is a conjunction of two of its parameters, and its file in numbers.
-use Rattle.std.proofs.Common.{◌≡◌, ◌≢◌, ◌∙◌, ap, sym, ℕ, suc, ◌+◌, ◌-◌, ◌*◌, ◌^◌, Bool, true, false, not, ◌||◌, cond, if◌then◌else◌, List, [], ◌∷◌, ◌++◌, length, map, Option, Some, None, Contains, arith, refl}
+use Rattle.std.proofs.Common.{◌≡◌, ◌≢◌, ◌∙◌, ap, sym, ℕ, suc, ◌+◌, ◌≤◌, Bool, true, false, not, ◌||◌, cond, if◌then◌else◌, List, [], ◌∷◌, ◌++◌, length, map, Option, Some, None, Contains, arith, refl}
 use Rattle.std.specs.Str.{bytes_eq}
 use Rattle.std.specs.List.{AllByRecursion}
 use Rattle.std.proofs.lemmas.List.{length-map}
@@ -9,16 +9,18 @@ use Rattle.tw_gate.specs.Gates.{PlainGate, directed}
 use Rattle.tw_gate.specs.Weight.{t_count}
 use Rattle.tw_gate.proofs.Inverse.{t_count-inverse}
 use Rattle.tw_gatetext.specs.Text.{File}
-use Rattle.tw_types.specs.declared.widths.Widths.{Widths}
+use Rattle.tw_types.specs.Types.{Widths}
 use Rattle.tw_state.specs.States.{Name}
-use Rattle.tw_frames.specs.Layout.{layout_of, wire_from, wire_of}
+use Rattle.tw_gate.specs.declared.gate.TheConstants.{TOFFOLI_T_COUNT}
+use Rattle.tw_frames.specs.declared.regions.WireLayout.{WireLayout}
+use Rattle.tw_frames.specs.Layout.{regions, layout_of, wire_from, wire_of}
 use Rattle.tw_frames.proofs.Wires.{AreBoolean}
 use Rattle.tw_lower.specs.Circuits.{and_gates, function_gates}
 use Rattle.tw_lower.specs.Correct.{IsConjunction}
 use Rattle.tw_lower.proofs.Implemented.{function_gates-conjunction}
-use Rattle.tw_lower.proofs.Places.{places, t_count-function_gates}
+use Rattle.tw_lower.proofs.Places.{layout-conjunction, t_count-function_gates}
 use Rattle.tower.specs.Form.{Form, is_among, parameters_of, are_different, is_right, boolean, function_of}
-use Rattle.tower.specs.DefinedFile.{file_of}
+use Rattle.tower.specs.Compile.{file_of}
 use Rattle.tower.proofs.Bools.{and_parts}
 
 -- what the test of a form says
@@ -73,9 +75,14 @@ conjunction form is =
     }
 
 -- all its variables are truth values
-booleans : (names : List Name) (result : Name) → AreBoolean (map boolean names ++ boolean result ∷ [])
+pub booleans : (names : List Name) (result : Name) → AreBoolean (map boolean names ++ boolean result ∷ [])
 booleans [] result = (refl, tt)
 booleans (name ∷ names) result = (refl, booleans names result)
+
+-- it has at most two parameters
+pub few_parameters : (first : Name) (second : Option Name) → length (map boolean (parameters_of first second)) ≤ 2
+few_parameters first None = omega arith
+few_parameters first (Some second) = omega arith
 
 same_name : (name other : Name) → is_among name (other ∷ []) ≡ true → bytes_eq other name ≡ true
 same_name name other is = by_test (bytes_eq name other) refl is
@@ -100,15 +107,6 @@ wire_from-place widths from first (Some second) result name is = by_test (bytes_
     by_test true false e f h = let is = (bytes_eq-Decides first name).1 (sym ((bytes_eq-Decides name first).0 e)) in cc
     by_test false false e f h = rw (same_name name second h) refl
 
--- the numbers of a file in the code are those of the defined file
-pub record IsNumbered (widths : Widths) (form : Form) (arguments left right result scratch wires : ℕ) : Type 0 where
-  pub arguments_at : arguments ≡ widths.addr + (2 ^ widths.addr - 1) * widths.addr
-  pub left_at : left ≡ arguments + place form.first form.left
-  pub right_at : right ≡ arguments + place form.first form.right
-  pub result_at : result ≡ arguments + length (parameters_of form.first form.second)
-  pub scratch_at : scratch ≡ result + 1
-  pub wires_at : wires ≡ scratch + 2
-
 -- a direction keeps the T-count
 pub t_count-directed : (inverse : Bool) (gates : List PlainGate) → t_count (directed inverse gates) ≡ t_count gates
 t_count-directed true gates = t_count-inverse gates
@@ -118,30 +116,30 @@ same_file : (wires wires' count count' : ℕ) (gates gates' : List PlainGate) �
     ◌≡◌ {A = File} (record { level = levels.Mcx; wires = wires; t_count = count; gates = gates }) (record { level = levels.Mcx; wires = wires'; t_count = count'; gates = gates' })
 same_file wires wires' count count' gates gates' e f g = cc
 
-same_gates : (left left' right right' result result' scratch scratch' : ℕ) → left ≡ left' → right ≡ right' → result ≡ result' → scratch ≡ scratch' → and_gates left right result scratch ≡ and_gates left' right' result' scratch'
+pub same_gates : (left left' right right' result result' scratch scratch' : ℕ) → left ≡ left' → right ≡ right' → result ≡ result' → scratch ≡ scratch' → and_gates left right result scratch ≡ and_gates left' right' result' scratch'
 same_gates left left' right right' result result' scratch scratch' e f g h = cc
 
--- the wire of a parameter
-wire_of-place : (widths : Widths) (form : Form) (arguments name_at : ℕ) (name : Name) → arguments ≡ (layout_of widths [] (function_of form)).arguments → is_among name (parameters_of form.first form.second) ≡ true →
-    name_at ≡ arguments + place form.first name → name_at ≡ wire_of widths [] (function_of form) name
-wire_of-place widths form arguments name_at name same is at =
-    at ∙ ap (λ a. a + place form.first name) same ∙ sym (wire_from-place widths (layout_of widths [] (function_of form)).arguments form.first form.second form.result name is)
-
-pub file-numbered : (widths : Widths) (inverse : Bool) (form : Form) (arguments left right result scratch wires : ℕ) → is_right form ≡ true → IsNumbered widths form arguments left right result scratch wires →
-    ◌≡◌ {A = File} (record { level = levels.Mcx; wires = wires; t_count = 7; gates = directed inverse (and_gates left right result scratch) }) (file_of widths inverse (function_of form))
-file-numbered widths inverse form arguments left right result scratch wires is at =
+-- the file of the code is the defined one
+pub file-defined : (widths : Widths) (inverse : Bool) (form : Form) (layout : WireLayout) → is_right form ≡ true → layout ≡ regions widths widths.addr (length (parameters_of form.first form.second)) 1 2 →
+    ◌≡◌ {A = File}
+    (record {
+      level = levels.Mcx;
+      wires = layout.wires;
+      t_count = TOFFOLI_T_COUNT;
+      gates = directed inverse (and_gates (layout.args + place form.first form.left) (layout.args + place form.first form.right) layout.out layout.scratch);
+    })
+    (file_of widths inverse (function_of form))
+file-defined widths inverse form layout is at =
     let known = rightness form is in
     let one = conjunction form is in
-    let regions = places widths one (booleans (parameters_of form.first form.second) form.result) in
-    let same : arguments ≡ (layout_of widths [] (function_of form)).arguments = at.arguments_at ∙ sym regions.arguments_at in
-    let many : length (map boolean (parameters_of form.first form.second)) ≡ length (parameters_of form.first form.second) = length-map (parameters_of form.first form.second) boolean in
-    let same_result : result ≡ (layout_of widths [] (function_of form)).result = at.result_at ∙ ap (λ a. a + length (parameters_of form.first form.second)) same ∙ ap (λ (n : ℕ). (layout_of widths [] (function_of form)).arguments + n) (sym many) ∙ sym regions.result_at in
-    let same_scratch : scratch ≡ (layout_of widths [] (function_of form)).scratch = at.scratch_at ∙ ap (λ r. r + 1) same_result ∙ sym regions.scratch_at in
-    let same_wires : wires ≡ (layout_of widths [] (function_of form)).wires = omega (arith, at.wires_at, at.scratch_at, same_result, regions.wires_at) in
-    let gates = same_gates _ _ _ _ _ _ _ _
-    (wire_of-place widths form arguments left form.left same known.left_known at.left_at)
-    (wire_of-place widths form arguments right form.right same known.right_known at.right_at)
-    same_result same_scratch ∙ sym (function_gates-conjunction widths [] one) in
-    same_file wires _ 7 _ _ _ same_wires
+    let names = parameters_of form.first form.second in
+    let many : length (map boolean names) ≡ length names = length-map names boolean in
+    let same : layout ≡ layout_of widths [] (function_of form) = at ∙ sym (layout-conjunction widths one (booleans names form.result) ∙ ap (λ (n : ℕ). regions widths widths.addr n 1 2) many) in
+    let from : layout.args ≡ (layout_of widths [] (function_of form)).args = ap (λ (l : WireLayout). l.args) same in
+    let wire : (name : Name) → is_among name names ≡ true → layout.args + place form.first name ≡ wire_of widths [] (function_of form) name =
+    λ name among. ap (λ a. a + place form.first name) from ∙ sym (wire_from-place widths (layout_of widths [] (function_of form)).args form.first form.second form.result name among) in
+    let gates = same_gates _ _ _ _ _ _ _ _ (wire form.left known.left_known) (wire form.right known.right_known) (ap (λ (l : WireLayout). l.out) same) (ap (λ (l : WireLayout). l.scratch) same)
+    ∙ sym (function_gates-conjunction widths [] one) in
+    same_file layout.wires _ TOFFOLI_T_COUNT _ _ _ (ap (λ (l : WireLayout). l.wires) same)
     (sym (t_count-directed inverse (function_gates widths [] (function_of form)) ∙ t_count-function_gates widths [] one))
     (ap (directed inverse) gates)

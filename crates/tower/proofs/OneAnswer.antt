@@ -1,64 +1,172 @@
--- Words and an input have one answer.
-use Rattle.std.proofs.Common.{◌≡◌, ◌∙◌, ap, sym, subst, ℕ, List}
+-- Arguments and an input have one answer.
+use Rattle.std.proofs.Common.{◌≡◌, ◌∙◌, ap, sym, subst, ℕ, ◌<◌, ◌≤◌, Bool, List, [], ◌∷◌, ◌++◌, length, map, codes, arith}
 use Rattle.tw_text.specs.declared.refusal.Refusal.{Refusal}
-use Rattle.tw_text.specs.Refusals.{refusal_line}
-use Rattle.tw_syntax.specs.Programs.{ProgramTree}
-use Rattle.tw_gatetext.specs.Text.{file_text}
+use Rattle.tw_text.specs.declared.diagnostic.Diagnostic.TheVariants as diagnostic
+use Rattle.tw_text.specs.declared.limits.TheConstants.{INPUT_LIMIT}
+use Rattle.tw_syntax.specs.Programs.{FunTree, FunDecl, ProgramTree}
+use Rattle.tw_parse.proofs.Sources as sources
+use Rattle.tw_gate.specs.Gates.{act}
+use Rattle.tw_gatetext.specs.declared.file.GateFault.TheVariants as gate_fault
+use Rattle.tw_gatetext.specs.Text.{File, file_text}
+use Rattle.tw_gatetext.specs.Files.{BeginsWith}
+use Rattle.tw_gatetext.proofs.Bounds.{file_text-tells}
+use Rattle.tw_gatetext.proofs.Refusals as gates
+use Rattle.tw_sim.specs.declared.lines.LinesFault.TheVariants as lines_fault
+use Rattle.tw_sim.specs.BitLines.{bit_lines, AreLinesOf}
+use Rattle.tw_sim.proofs.Laws.{right_not_refused, one_reason, bit_lines-tells}
 use Rattle.tw_state.specs.Programs.{Function}
-use Rattle.tower.specs.declared.status.Status.{Status}
-use Rattle.tower.specs.declared.options.Options.{Options}
-use Rattle.tower.specs.declared.options.Command.{Command}
-use Rattle.tower.specs.declared.options.Command.TheVariants as command
-use Rattle.tower.specs.Words.{Asks}
-use Rattle.tower.specs.Refused.{status_of}
-use Rattle.tower.specs.DefinedFile.{file_of}
-use Rattle.tower.specs.GateAnswers.{SimulateAnswer, InvertAnswer}
-use Rattle.tower.specs.Answer.{FileAnswer, Built, NotBuilt, PrintAnswer, SourceAnswer, OnTree, Refused, GatesAnswer, Within, TooLong, InputAnswer, Answer, ToCommand, Usage}
-use Rattle.tower.proofs.Asked.{asks-complete}
+use Rattle.tw_state.specs.FromTrees.{function_meant}
+use Rattle.tower.specs.Requests.{Request, Format, Compile, Simulate, Invert, FileRequest}
+use Rattle.tower.specs.Outcomes.{Outcome, Prints, Refuses}
+use Rattle.tower.specs.Sources.{SourceAnswer, OnTree, NoProgram}
+use Rattle.tower.specs.GateInputs.{GatesAnswer, OnPrefix, WrongLine, PastLimit}
+use Rattle.tower.specs.FirstTree.{IsFirstTree}
+use Rattle.tower.specs.Format.{FormatAnswer}
+use Rattle.tower.specs.Compile.{CompileAnswer, Built, NotBuilt, file_of}
+use Rattle.tower.specs.Invert as invert
+use Rattle.tower.specs.Invert.{InvertAnswer, inverse_file}
+use Rattle.tower.specs.Simulate as simulate
+use Rattle.tower.specs.Simulate.{HasLines, LinesAnswer, OnStates, SimulateAnswer, OfLevelT, OnLines, OtherLine}
+use Rattle.tower.specs.Answer.{InputAnswer, Answer, OnInput, TooLong, Usage}
 use Rattle.tower.proofs.Binds.{some_is}
-use Rattle.tower.proofs.Inputs.{one_tree, one_refused, not_refused, within_limit, one_function}
-use Rattle.tower.proofs.GateInputs.{Same, one_invert_answer, one_simulate_answer}
+use Rattle.tower.proofs.OneRequest.{one_request}
 
-pub one_command : (words : List (List ℕ)) (asked other : Command) → Asks words asked → Asks words other → asked ≡ other
-one_command words asked other x y = some_is _ _ (sym (asks-complete words asked x) ∙ asks-complete words other y)
+-- programs
 
-one_printed : (tree : ProgramTree) (ended other : Status) (text more : List ℕ) → PrintAnswer tree ended text → PrintAnswer tree other more → Same ended other text more
-one_printed tree ended other text more x y = (x.0 ∙ sym y.0, x.1 ∙ sym y.1)
+one_fun : (f g : FunTree) → FunDecl f ∷ [] ≡ FunDecl g ∷ [] → f ≡ g
+one_fun f g e = cc
 
-one_file : (options : Options) (tree : ProgramTree) (ended other : Status) (text more : List ℕ) → FileAnswer options tree ended text → FileAnswer options tree other more → Same ended other text more
-one_file options tree ended other text more (Built f x a b) (Built g y c d) =
-    (a ∙ sym c, b ∙ ap (λ (h : Function). file_text (file_of options.widths options.inverse h)) (one_function tree f g x y) ∙ sym d)
-one_file options tree ended other text more (Built f x a b) (NotBuilt none c d) = absurd (none f x)
-one_file options tree ended other text more (NotBuilt none a b) (Built g y c d) = absurd (none g y)
-one_file options tree ended other text more (NotBuilt none a b) (NotBuilt none' c d) = (a ∙ sym c, b ∙ sym d)
+one_function : (tree : ProgramTree) (function other : Function) → IsFirstTree tree function → IsFirstTree tree other → function ≡ other
+one_function tree function other x y =
+    some_is _ _ (sym x.meant ∙ ap function_meant (one_fun x.fun y.fun (sym x.alone ∙ y.alone)) ∙ y.meant)
 
--- where a program has one answer, a source has
-one_source_answer : (bytes : List ℕ) (OnProgram : ProgramTree → Status → List ℕ → Type 0) (ended other : Status) (text more : List ℕ) →
-    ((tree : ProgramTree) → OnProgram tree ended text → OnProgram tree other more → Same ended other text more) → SourceAnswer bytes OnProgram ended text → SourceAnswer bytes OnProgram other more → Same ended other text more
-one_source_answer bytes OnProgram ended other text more one (OnTree tree x a) (OnTree tree' y b) =
-    one tree' (subst (λ (t : ProgramTree). OnProgram t ended text) (one_tree bytes tree tree' x y) a) b
-one_source_answer bytes OnProgram ended other text more one (OnTree tree x a) (Refused r y b c) = absurd (not_refused bytes tree r x y)
-one_source_answer bytes OnProgram ended other text more one (Refused r x a b) (OnTree tree y c) = absurd (not_refused bytes tree r y x)
-one_source_answer bytes OnProgram ended other text more one (Refused r x a b) (Refused q y c d) =
-    let same = one_refused bytes r q x y in (a ∙ ap (λ (k : Refusal). status_of k.rule) same ∙ sym c, b ∙ ap refusal_line same ∙ sym d)
+one_format : (tree : ProgramTree) (outcome other : Outcome) → FormatAnswer tree outcome → FormatAnswer tree other → outcome ≡ other
+one_format tree outcome other x y = x ∙ sym y
 
--- where bytes that are not too many have one answer, all have
-one_gates_answer : (bytes : List ℕ) (OnBytes : List ℕ → Status → List ℕ → Type 0) (ended other : Status) (text more : List ℕ) →
-    (OnBytes bytes ended text → OnBytes bytes other more → Same ended other text more) → GatesAnswer bytes OnBytes ended text → GatesAnswer bytes OnBytes other more → Same ended other text more
-one_gates_answer bytes OnBytes ended other text more one (Within few a) (Within few' b) = one a b
-one_gates_answer bytes OnBytes ended other text more one (Within few a) (TooLong long c d) = absurd (within_limit bytes few long)
-one_gates_answer bytes OnBytes ended other text more one (TooLong long a b) (Within few c) = absurd (within_limit bytes few long)
-one_gates_answer bytes OnBytes ended other text more one (TooLong long a b) (TooLong long' c d) = (a ∙ sym c, b ∙ sym d)
+one_compile : (request : FileRequest) (tree : ProgramTree) (outcome other : Outcome) → CompileAnswer request tree outcome → CompileAnswer request tree other → outcome ≡ other
+one_compile request tree outcome other (Built f x a) (Built g y b) = a ∙ ap (λ (h : Function). Prints (file_text (file_of request.widths request.inverse h))) (one_function tree f g x y) ∙ sym b
+one_compile request tree outcome other (Built f x a) (NotBuilt none b) = absurd (none f x)
+one_compile request tree outcome other (NotBuilt none a) (Built g y b) = absurd (none g y)
+one_compile request tree outcome other (NotBuilt none a) (NotBuilt none' b) = a ∙ sym b
 
-one_input_answer : (asked : Command) (bytes : List ℕ) (ended other : Status) (text more : List ℕ) → InputAnswer asked bytes ended text → InputAnswer asked bytes other more → Same ended other text more
-one_input_answer command.Format bytes ended other text more x y = one_source_answer bytes PrintAnswer ended other text more (λ tree. one_printed tree ended other text more) x y
-one_input_answer (command.Compile options) bytes ended other text more x y = one_source_answer bytes (FileAnswer options) ended other text more (λ tree. one_file options tree ended other text more) x y
-one_input_answer command.Simulate bytes ended other text more x y = one_gates_answer bytes SimulateAnswer ended other text more (one_simulate_answer bytes ended other text more) x y
-one_input_answer command.Invert bytes ended other text more x y = one_gates_answer bytes InvertAnswer ended other text more (one_invert_answer bytes ended other text more) x y
+one_source : (bytes : List ℕ) (OnProgram : ProgramTree → Outcome → Type 0) (outcome other : Outcome) → ((tree : ProgramTree) → OnProgram tree outcome → OnProgram tree other → outcome ≡ other) →
+    SourceAnswer bytes OnProgram outcome → SourceAnswer bytes OnProgram other → outcome ≡ other
+one_source bytes OnProgram outcome other one (OnTree tree x a) (OnTree tree' y b) = one tree' (subst (λ (t : ProgramTree). OnProgram t outcome) (sources.one_source bytes tree' tree y x) a) b
+one_source bytes OnProgram outcome other one (OnTree tree x a) (NoProgram refusal y b) = absurd (sources.apart bytes tree refusal x y)
+one_source bytes OnProgram outcome other one (NoProgram refusal x a) (OnTree tree y b) = absurd (sources.apart bytes tree refusal y x)
+one_source bytes OnProgram outcome other one (NoProgram refusal x a) (NoProgram refusal' y b) =
+    a ∙ ap (λ (r : Refusal). Refuses (diagnostic.Refused r)) (sources.one_source_refusal bytes refusal' refusal y x) ∙ sym b
 
-pub one_answer : (words : List (List ℕ)) (bytes : List ℕ) (ended other : Status) (text more : List ℕ) → Answer words bytes ended text → Answer words bytes other more → Same ended other text more
-one_answer words bytes ended other text more (ToCommand asked x a) (ToCommand asked' y b) =
-    one_input_answer asked' bytes ended other text more (subst (λ (c : Command). InputAnswer c bytes ended text) (one_command words asked asked' x y) a) b
-one_answer words bytes ended other text more (ToCommand asked x a) (Usage none b c) = absurd (none asked x)
-one_answer words bytes ended other text more (Usage none a b) (ToCommand asked y c) = absurd (none asked y)
-one_answer words bytes ended other text more (Usage none a b) (Usage none' c d) = (a ∙ sym c, b ∙ sym d)
+-- gate files
+
+one_file : (bytes : List ℕ) (file other : File) (rest more : List ℕ) → BeginsWith bytes file rest → BeginsWith bytes other more → (file ≡ other) × (rest ≡ more)
+one_file bytes file other rest more x y = file_text-tells file other rest more x.valid y.valid (sym x.text ∙ y.text)
+
+same_line : (m n : ℕ) → gate_fault.BadGateText m ≡ gate_fault.BadGateText n → m ≡ n
+same_line m n e = cc
+
+same_refusal : (r s : Refusal) → gate_fault.Over r ≡ gate_fault.Over s → r ≡ s
+same_refusal r s e = cc
+
+line_or_limit : (n : ℕ) (r : Refusal) → gate_fault.BadGateText n ≡ gate_fault.Over r → ⊥
+line_or_limit n r e = cc
+
+one_gates : (bytes : List ℕ) (OnFile : File → List ℕ → Outcome → Type 0) (outcome other : Outcome) → ((file : File) (rest : List ℕ) → OnFile file rest outcome → OnFile file rest other → outcome ≡ other) →
+    GatesAnswer bytes OnFile outcome → GatesAnswer bytes OnFile other → outcome ≡ other
+one_gates bytes OnFile outcome other one (OnPrefix file rest x a) (OnPrefix file' rest' y b) =
+    let same = one_file bytes file file' rest rest' x y in
+    one file' rest' (subst (λ (f : File). OnFile f rest' outcome) same.0 (subst (λ (r : List ℕ). OnFile file r outcome) same.1 a)) b
+one_gates bytes OnFile outcome other one (OnPrefix file rest x a) (WrongLine line y b) = absurd (gates.no_file bytes _ file rest y x)
+one_gates bytes OnFile outcome other one (OnPrefix file rest x a) (PastLimit refusal y b) = absurd (gates.no_file bytes _ file rest y x)
+one_gates bytes OnFile outcome other one (WrongLine line x a) (OnPrefix file rest y b) = absurd (gates.no_file bytes _ file rest x y)
+one_gates bytes OnFile outcome other one (PastLimit refusal x a) (OnPrefix file rest y b) = absurd (gates.no_file bytes _ file rest x y)
+one_gates bytes OnFile outcome other one (WrongLine line x a) (WrongLine line' y b) = a ∙ ap (λ (n : ℕ). Refuses (diagnostic.BadGateText n)) (same_line line line' (gates.one_refusal bytes _ _ y x)) ∙ sym b
+one_gates bytes OnFile outcome other one (PastLimit refusal x a) (PastLimit refusal' y b) = a ∙ ap (λ (r : Refusal). Refuses (diagnostic.Refused r)) (same_refusal refusal refusal' (gates.one_refusal bytes _ _ y x)) ∙ sym b
+one_gates bytes OnFile outcome other one (WrongLine line x a) (PastLimit refusal y b) = absurd (line_or_limit line refusal (gates.one_refusal bytes _ _ y x))
+one_gates bytes OnFile outcome other one (PastLimit refusal x a) (WrongLine line y b) = absurd (line_or_limit line refusal (gates.one_refusal bytes _ _ x y))
+
+one_invert : (file : File) (rest : List ℕ) (outcome other : Outcome) → InvertAnswer file rest outcome → InvertAnswer file rest other → outcome ≡ other
+one_invert file rest outcome other (invert.AtEnd e a) (invert.AtEnd f b) = a ∙ sym b
+one_invert file rest outcome other (invert.AtEnd e a) (invert.GoesOn f b) = absurd (f e)
+one_invert file rest outcome other (invert.GoesOn e a) (invert.AtEnd f b) = absurd (e f)
+one_invert file rest outcome other (invert.GoesOn e a) (invert.GoesOn f b) = a ∙ sym b
+
+-- lines of bits
+
+end_or_more : (lines : List ℕ) → [] ≡ codes "%%\n" ++ lines → ⊥
+end_or_more lines e = cc
+
+mark_or_more : (lines : List ℕ) → codes "%%" ≡ codes "%%\n" ++ lines → ⊥
+mark_or_more lines e = cc
+
+after_mark : (lines other : List ℕ) → codes "%%\n" ++ lines ≡ codes "%%\n" ++ other → lines ≡ other
+after_mark lines other e = cc
+
+one_text : (rest lines other : List ℕ) → HasLines rest lines → HasLines rest other → lines ≡ other
+one_text rest lines other (simulate.AtEnd e f) (simulate.AtEnd e' f') = f ∙ sym f'
+one_text rest lines other (simulate.AtEnd e f) (simulate.AtMark e' f') = f ∙ sym f'
+one_text rest lines other (simulate.AtMark e f) (simulate.AtEnd e' f') = f ∙ sym f'
+one_text rest lines other (simulate.AtMark e f) (simulate.AtMark e' f') = f ∙ sym f'
+one_text rest lines other (simulate.AtEnd e f) (simulate.AfterMark e') = absurd (end_or_more other (sym e ∙ e'))
+one_text rest lines other (simulate.AtMark e f) (simulate.AfterMark e') = absurd (mark_or_more other (sym e ∙ e'))
+one_text rest lines other (simulate.AfterMark e) (simulate.AtEnd e' f') = absurd (end_or_more lines (sym e' ∙ e))
+one_text rest lines other (simulate.AfterMark e) (simulate.AtMark e' f') = absurd (mark_or_more lines (sym e' ∙ e))
+one_text rest lines other (simulate.AfterMark e) (simulate.AfterMark e') = after_mark lines other (sym e ∙ e')
+
+one_states : (wires : ℕ) (lines : List ℕ) (states other : List (List Bool)) → AreLinesOf wires lines states → AreLinesOf wires lines other → states ≡ other
+one_states wires lines states other x y = bit_lines-tells wires states other x.wide y.wide (sym x.spelled ∙ y.spelled)
+
+same_bits : (m n : ℕ) → lines_fault.BitsLength m ≡ lines_fault.BitsLength n → m ≡ n
+same_bits m n e = cc
+
+same_over : (r s : Refusal) → lines_fault.Over r ≡ lines_fault.Over s → r ≡ s
+same_over r s e = cc
+
+bits_or_over : (n : ℕ) (r : Refusal) → lines_fault.BitsLength n ≡ lines_fault.Over r → ⊥
+bits_or_over n r e = cc
+
+one_lines : (file : File) (lines : List ℕ) (outcome other : Outcome) → LinesAnswer file lines outcome → LinesAnswer file lines other → outcome ≡ other
+one_lines file lines outcome other (OnStates states x a) (OnStates states' y b) = a ∙ ap (λ (s : List (List Bool)). Prints (bit_lines (map (act file.gates) s))) (one_states file.wires lines states states' x y) ∙ sym b
+one_lines file lines outcome other (OnStates states x a) (simulate.WrongLine line y b) = absurd (right_not_refused file.wires lines states _ x y)
+one_lines file lines outcome other (OnStates states x a) (simulate.PastLimit refusal y b) = absurd (right_not_refused file.wires lines states _ x y)
+one_lines file lines outcome other (simulate.WrongLine line x a) (OnStates states y b) = absurd (right_not_refused file.wires lines states _ y x)
+one_lines file lines outcome other (simulate.PastLimit refusal x a) (OnStates states y b) = absurd (right_not_refused file.wires lines states _ y x)
+one_lines file lines outcome other (simulate.WrongLine line x a) (simulate.WrongLine line' y b) = a ∙ ap (λ (n : ℕ). Refuses (diagnostic.BitsLength n)) (same_bits line line' (one_reason file.wires lines _ _ y x)) ∙ sym b
+one_lines file lines outcome other (simulate.PastLimit refusal x a) (simulate.PastLimit refusal' y b) = a ∙ ap (λ (r : Refusal). Refuses (diagnostic.Refused r)) (same_over refusal refusal' (one_reason file.wires lines _ _ y x)) ∙ sym b
+one_lines file lines outcome other (simulate.WrongLine line x a) (simulate.PastLimit refusal y b) = absurd (bits_or_over line refusal (one_reason file.wires lines _ _ y x))
+one_lines file lines outcome other (simulate.PastLimit refusal x a) (simulate.WrongLine line y b) = absurd (bits_or_over line refusal (one_reason file.wires lines _ _ x y))
+
+one_simulate : (file : File) (rest : List ℕ) (outcome other : Outcome) → SimulateAnswer file rest outcome → SimulateAnswer file rest other → outcome ≡ other
+one_simulate file rest outcome other (OfLevelT e a) (OfLevelT f b) = a ∙ sym b
+one_simulate file rest outcome other (OfLevelT e a) (OnLines f lines has b) = absurd (f e)
+one_simulate file rest outcome other (OfLevelT e a) (OtherLine f none b) = absurd (f e)
+one_simulate file rest outcome other (OnLines e lines has a) (OfLevelT f b) = absurd (e f)
+one_simulate file rest outcome other (OtherLine e none a) (OfLevelT f b) = absurd (e f)
+one_simulate file rest outcome other (OnLines e lines has a) (OnLines f lines' has' b) =
+    one_lines file lines' outcome other (subst (λ (l : List ℕ). LinesAnswer file l outcome) (one_text rest lines lines' has has') a) b
+one_simulate file rest outcome other (OnLines e lines has a) (OtherLine f none b) = absurd (none lines has)
+one_simulate file rest outcome other (OtherLine e none a) (OnLines f lines has b) = absurd (none lines has)
+one_simulate file rest outcome other (OtherLine e none a) (OtherLine f none' b) = a ∙ sym b
+
+-- all requests
+
+one_input : (request : Request) (bytes : List ℕ) (outcome other : Outcome) → InputAnswer request bytes outcome → InputAnswer request bytes other → outcome ≡ other
+one_input Format bytes outcome other x y = one_source bytes FormatAnswer outcome other (λ tree. one_format tree outcome other) x y
+one_input (Compile file) bytes outcome other x y = one_source bytes (CompileAnswer file) outcome other (λ tree. one_compile file tree outcome other) x y
+one_input Simulate bytes outcome other x y = one_gates bytes SimulateAnswer outcome other (λ file rest. one_simulate file rest outcome other) x y
+one_input Invert bytes outcome other x y = one_gates bytes InvertAnswer outcome other (λ file rest. one_invert file rest outcome other) x y
+
+few_or_many : (bytes : List ℕ) → length bytes ≤ INPUT_LIMIT → INPUT_LIMIT < length bytes → ⊥
+few_or_many bytes few many = omega (arith, few, many)
+
+pub one_answer : (words : List (List ℕ)) (bytes : List ℕ) (outcome other : Outcome) → Answer words bytes outcome → Answer words bytes other → outcome ≡ other
+one_answer words bytes outcome other (OnInput request x few a) (OnInput request' y few' b) =
+    one_input request' bytes outcome other (subst (λ (r : Request). InputAnswer r bytes outcome) (one_request words request request' x y) a) b
+one_answer words bytes outcome other (OnInput request x few a) (TooLong request' y many b) = absurd (few_or_many bytes few many)
+one_answer words bytes outcome other (TooLong request x many a) (OnInput request' y few b) = absurd (few_or_many bytes few many)
+one_answer words bytes outcome other (TooLong request x many a) (TooLong request' y many' b) = a ∙ sym b
+one_answer words bytes outcome other (OnInput request x few a) (Usage none b) = absurd (none request x)
+one_answer words bytes outcome other (TooLong request x many a) (Usage none b) = absurd (none request x)
+one_answer words bytes outcome other (Usage none a) (OnInput request y few b) = absurd (none request y)
+one_answer words bytes outcome other (Usage none a) (TooLong request y many b) = absurd (none request y)
+one_answer words bytes outcome other (Usage none a) (Usage none' b) = a ∙ sym b

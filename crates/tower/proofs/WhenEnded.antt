@@ -1,211 +1,166 @@
 -- When a call ends with each status.
-use Rattle.std.proofs.Common.{◌≡◌, ◌≢◌, sym, subst, ℕ, ◌<◌, ◌≤◌, ◌⊎◌, inl, inr, true, List, [], length, codes, map, Option, Some, None, IfSome, refl}
+use Rattle.std.proofs.Common.{◌≡◌, ◌∙◌, ap, sym, subst, ℕ, ◌⊎◌, inl, inr, Bool, true, false, List, [], Option, Some, None, IfSome, refl}
 use Rattle.tw_io.specs.Devices.{Appends}
 use Rattle.tw_text.specs.declared.refusal.Rule.{Rule}
 use Rattle.tw_text.specs.declared.refusal.Rule.TheVariants as rule
-use Rattle.tw_text.specs.Refusals.{refusal_line}
+use Rattle.tw_text.specs.declared.diagnostic.Diagnostic.{Diagnostic}
+use Rattle.tw_text.specs.declared.diagnostic.Diagnostic.TheVariants as diagnostic
 use Rattle.tw_syntax.specs.Programs.{ProgramTree}
-use Rattle.tw_print.specs.Programs.{program_print}
-use Rattle.tw_gate.specs.Gates.{act}
-use Rattle.tw_gatetext.specs.declared.file.GateFault.{GateFault}
-use Rattle.tw_gatetext.specs.declared.file.GateFault.TheVariants as gate_fault
-use Rattle.tw_gatetext.specs.Text.{File, file_text}
-use Rattle.tw_gatetext.specs.Refused.{IsRefusedText}
-use Rattle.tw_sim.specs.declared.lines.LinesFault.{LinesFault}
-use Rattle.tw_sim.specs.declared.lines.LinesFault.TheVariants as lines_fault
-use Rattle.tw_sim.specs.BitLines.{bit_lines, AreRefused}
+use Rattle.tw_gatetext.specs.Text.{File}
 use Rattle.tower.specs.declared.status.Status.{Status}
 use Rattle.tower.specs.declared.status.Status.TheVariants as status
-use Rattle.tower.specs.declared.options.Options.{Options}
-use Rattle.tower.specs.declared.options.Command.{Command}
-use Rattle.tower.specs.declared.options.Command.TheVariants as command
-use Rattle.tower.specs.Words.{Asks}
-use Rattle.tower.specs.Refused.{IsInput, input_limit, status_of, too_long}
-use Rattle.tower.specs.DefinedFile.{file_of}
-use Rattle.tower.specs.GateAnswers as gates
-use Rattle.tower.specs.GateAnswers.{GateFaultAnswer, LinesFaultAnswer, inverse_file, number_behind, bad_gate_text, numbered_line, InvertAnswer, HasLines, LinesAnswer, SimulateAnswer}
-use Rattle.tower.specs.Answer.{IsUsage, FileAnswer, Built, NotBuilt, PrintAnswer, SourceAnswer, OnTree, Refused, GatesAnswer, Within, TooLong, InputAnswer, Answer, ToCommand, Usage, Gave, Answered, IsComplete}
-use Rattle.tower.specs.Causes.{ReadsSource, ReadsGates, IsRefusedWith, ReadsFile, Simulates, IsPastLimit, OfSource, OfLength, OfGates, OfLines, IsBadGateText, InFile, BehindFile, NoMark, IsBadLine, IsOfLevelT, IsNotBuilt, IsFine, Formats, Compiles, Inverts, OnLines, IsCutShort, EndsWhere}
-use Rattle.tower.proofs.Answering.{is_answer}
+use Rattle.tower.specs.Requests.{FileRequest, Request, Format, Compile, Simulate, Invert, IsUsage}
+use Rattle.tower.specs.Outcomes.{Outcome, Prints, Refuses, rule_status, refusal_status, outcome_status}
+use Rattle.tower.specs.Sources.{SourceAnswer, OnTree, NoProgram}
+use Rattle.tower.specs.GateInputs.{GatesAnswer, OnPrefix, WrongLine, PastLimit}
+use Rattle.tower.specs.Format.{FormatAnswer}
+use Rattle.tower.specs.Compile.{CompileAnswer, Built, NotBuilt}
+use Rattle.tower.specs.Invert as invert
+use Rattle.tower.specs.Invert.{InvertAnswer}
+use Rattle.tower.specs.Simulate as simulate
+use Rattle.tower.specs.Simulate.{LinesAnswer, OnStates, SimulateAnswer, OfLevelT, OnLines, OtherLine}
+use Rattle.tower.specs.Answer.{InputAnswer, Answer, OnInput, TooLong, Usage, Gave, GaveWhole, Answered, IsComplete, IsCutShort, IsRefusedWith, Cause}
 use Rattle.tower.proofs.OneAnswer.{one_answer}
-use Rattle.tower.proofs.Told.{given, if_told, given_at}
 
--- what words and bytes are that are answered with each status
-abbrev pub Cause : Status → List (List ℕ) → List ℕ → Type 0
-Cause status.Ok words bytes = IsFine words bytes
-Cause status.Usage words bytes = IsUsage words
-Cause status.Limit words bytes = IsPastLimit words bytes
-Cause status.BadGateText words bytes = IsBadGateText words bytes
-Cause status.BitsLength words bytes = IsBadLine words bytes
-Cause status.LevelT words bytes = IsOfLevelT words bytes
-Cause status.NotBuilt words bytes = IsNotBuilt words bytes
-Cause ended words bytes = IsRefusedWith ended words bytes
+pub if_told : {A B : List ℕ → Type 0} → (left : Option (List ℕ)) → ((bytes : List ℕ) → A bytes → B bytes) → IfSome left A → IfSome left B
+if_told None f x = tt
+if_told (Some all) f x = f all x
 
--- what the status says of the words and the bytes
+cut_or_whole : (words : List (List ℕ)) (bytes : List ℕ) (before now : Option (List ℕ)) (ended : Status) → Gave words bytes before now ended → IsCutShort ended ⊎ GaveWhole words bytes before now ended
+cut_or_whole words bytes before now status.Memory gave = inl (inl refl)
+cut_or_whole words bytes before now status.ReadFault gave = inl (inr (inl refl))
+cut_or_whole words bytes before now status.WriteFault gave = inl (inr (inr refl))
+cut_or_whole words bytes before now other gave = inr gave
 
-caused_as : (words : List (List ℕ)) (bytes : List ℕ) (ended wanted : Status) → ended ≡ wanted → Cause wanted words bytes → Cause ended words bytes
-caused_as words bytes ended wanted is cause = subst (λ (s : Status). Cause s words bytes) (sym is) cause
+pub told_answer : (left before now : Option (List ℕ)) (words : List (List ℕ)) (ended : Status) → Answered left before now words ended → IfSome left (λ bytes. IsCutShort ended ⊎ GaveWhole words bytes before now ended)
+told_answer None before now words ended answered = tt
+told_answer (Some all) before now words ended answered =
+    subst (λ (b : List ℕ). IsCutShort ended ⊎ GaveWhole words b before now ended) (sym answered.told) (cut_or_whole words answered.bytes before now ended answered.gave)
 
-by_rule : (words : List (List ℕ)) (bytes : List ℕ) (r : Rule) → IsRefusedWith (status_of r) words bytes → Cause (status_of r) words bytes
-by_rule words bytes (rule.Limit limit) refused = OfSource refused
-by_rule words bytes other refused = refused
+-- arguments that ask for something are not refused as a usage error
 
-module _ (words : List (List ℕ)) (bytes : List ℕ) where
-  file_caused : (options : Options) (tree : ProgramTree) (ended : Status) (text : List ℕ) → Asks words (command.Compile options) → IsInput bytes tree → FileAnswer options tree ended text → Cause ended words bytes
-  file_caused options tree ended text asks input (Built function first e f) = caused_as words bytes ended status.Ok e (Compiles options tree function asks input first)
-  file_caused options tree ended text asks input (NotBuilt none e f) =
-      caused_as words bytes ended status.NotBuilt e (record { options = options; asked = asks; tree = tree; input = input; no_first = none })
+abbrev not_usage : Outcome → Bool
+not_usage (Refuses diagnostic.Usage) = false
+not_usage other = true
 
-  source_caused : (asked : Command) (OnProgram : ProgramTree → Status → List ℕ → Type 0) (ended : Status) (text : List ℕ) → Asks words asked → ReadsSource asked →
-      ((tree : ProgramTree) → IsInput bytes tree → OnProgram tree ended text → Cause ended words bytes) → SourceAnswer bytes OnProgram ended text → Cause ended words bytes
-  source_caused asked OnProgram ended text asks reads on_program (OnTree tree input is) = on_program tree input is
-  source_caused asked OnProgram ended text asks reads on_program (Refused r refused e f) =
-      caused_as words bytes ended (status_of r.rule) e (by_rule words bytes r.rule (record { command = asked; asked = asks; reads = reads; refusal = r; refused = refused; status = refl }))
+lines-not_usage : (file : File) (lines : List ℕ) (outcome : Outcome) → LinesAnswer file lines outcome → not_usage outcome ≡ true
+lines-not_usage file lines outcome (OnStates states are e) = ap not_usage e
+lines-not_usage file lines outcome (simulate.WrongLine line are e) = ap not_usage e
+lines-not_usage file lines outcome (simulate.PastLimit refusal are e) = ap not_usage e
 
-  gate_fault_caused : (why : GateFault) (ended : Status) (text : List ℕ) → ReadsFile words bytes → IsRefusedText bytes why → GateFaultAnswer why ended text → Cause ended words bytes
-  gate_fault_caused (gate_fault.BadGateText number) ended text reads refused is = caused_as words bytes ended status.BadGateText is.0 (InFile number reads refused)
-  gate_fault_caused (gate_fault.Over refusal) ended text reads refused is = caused_as words bytes ended status.Limit is.0 (OfGates refusal reads refused)
-  gate_fault_caused gate_fault.Memory ended text reads refused is = absurd is
+simulate-not_usage : (file : File) (rest : List ℕ) (outcome : Outcome) → SimulateAnswer file rest outcome → not_usage outcome ≡ true
+simulate-not_usage file rest outcome (OfLevelT level e) = ap not_usage e
+simulate-not_usage file rest outcome (OnLines level lines has is) = lines-not_usage file lines outcome is
+simulate-not_usage file rest outcome (OtherLine level none e) = ap not_usage e
 
-  invert_caused : (ended : Status) (text : List ℕ) → Asks words command.Invert → length bytes ≤ input_limit → InvertAnswer bytes ended text → Cause ended words bytes
-  invert_caused ended text asks few (gates.Inverted file begins is) = caused_as words bytes ended status.Ok is.0 (Inverts file asks few begins)
-  invert_caused ended text asks few (gates.GoesOn file rest begins some e f) = caused_as words bytes ended status.BadGateText e (BehindFile file rest asks few begins some)
-  invert_caused ended text asks few (gates.NoFile why refused is) = gate_fault_caused why ended text (record { command = command.Invert; asked = asks; reads = tt; within = few }) refused is
+invert-not_usage : (file : File) (rest : List ℕ) (outcome : Outcome) → InvertAnswer file rest outcome → not_usage outcome ≡ true
+invert-not_usage file rest outcome (invert.AtEnd end e) = ap not_usage e
+invert-not_usage file rest outcome (invert.GoesOn some e) = ap not_usage e
 
-  lines_caused : (file : File) (behind lines : List ℕ) (ended : Status) (text : List ℕ) → Simulates words bytes file behind → HasLines behind lines → LinesAnswer file lines ended text → Cause ended words bytes
-  lines_caused file behind lines ended text simulates has (gates.Simulated states are e f) = caused_as words bytes ended status.Ok e (OnLines file behind lines states simulates has are)
-  lines_caused file behind lines ended text simulates has (gates.BadLines why refused is) = by_fault why refused is
-    where
-      by_fault : (why : LinesFault) → AreRefused file.wires lines why → LinesFaultAnswer why ended text → Cause ended words bytes
-      by_fault (lines_fault.BitsLength number) refused is =
-          caused_as words bytes ended status.BitsLength is.0 (record { file = file; behind = behind; simulates = simulates; lines = lines; has = has; number = number; refused = refused })
-      by_fault (lines_fault.Over refusal) refused is = caused_as words bytes ended status.Limit is.0 (OfLines file behind lines refusal simulates has refused)
-      by_fault lines_fault.Memory refused is = absurd is
+gates-not_usage : (bytes : List ℕ) (OnFile : File → List ℕ → Outcome → Type 0) (outcome : Outcome) → ((file : File) (rest : List ℕ) → OnFile file rest outcome → not_usage outcome ≡ true) → GatesAnswer bytes OnFile outcome → not_usage outcome ≡ true
+gates-not_usage bytes OnFile outcome on_file (OnPrefix file rest begins is) = on_file file rest is
+gates-not_usage bytes OnFile outcome on_file (WrongLine line is e) = ap not_usage e
+gates-not_usage bytes OnFile outcome on_file (PastLimit refusal is e) = ap not_usage e
 
-  simulate_caused : (ended : Status) (text : List ℕ) → Asks words command.Simulate → length bytes ≤ input_limit → SimulateAnswer bytes ended text → Cause ended words bytes
-  simulate_caused ended text asks few (gates.OnLines file behind lines begins level has is) =
-      lines_caused file behind lines ended text (record { asked = asks; within = few; begins = begins; level = level }) has is
-  simulate_caused ended text asks few (gates.OtherLine file behind begins level none e f) =
-      caused_as words bytes ended status.BadGateText e (NoMark file behind (record { asked = asks; within = few; begins = begins; level = level }) none)
-  simulate_caused ended text asks few (gates.OfLevelT file behind begins level e f) =
-      caused_as words bytes ended status.LevelT e (record { asked = asks; within = few; file = file; behind = behind; begins = begins; level = level })
-  simulate_caused ended text asks few (gates.NoGateFile why refused is) = gate_fault_caused why ended text (record { command = command.Simulate; asked = asks; reads = tt; within = few }) refused is
+compile-not_usage : (request : FileRequest) (tree : ProgramTree) (outcome : Outcome) → CompileAnswer request tree outcome → not_usage outcome ≡ true
+compile-not_usage request tree outcome (Built function first e) = ap not_usage e
+compile-not_usage request tree outcome (NotBuilt none e) = ap not_usage e
 
-  gates_caused : (asked : Command) (OnBytes : List ℕ → Status → List ℕ → Type 0) (ended : Status) (text : List ℕ) → Asks words asked → ReadsGates asked →
-      (length bytes ≤ input_limit → OnBytes bytes ended text → Cause ended words bytes) → GatesAnswer bytes OnBytes ended text → Cause ended words bytes
-  gates_caused asked OnBytes ended text asks reads on_bytes (Within few is) = on_bytes few is
-  gates_caused asked OnBytes ended text asks reads on_bytes (TooLong long e f) = caused_as words bytes ended status.Limit e (OfLength asked asks reads long)
+source-not_usage : (bytes : List ℕ) (OnProgram : ProgramTree → Outcome → Type 0) (outcome : Outcome) → ((tree : ProgramTree) → OnProgram tree outcome → not_usage outcome ≡ true) → SourceAnswer bytes OnProgram outcome → not_usage outcome ≡ true
+source-not_usage bytes OnProgram outcome on_program (OnTree tree source is) = on_program tree is
+source-not_usage bytes OnProgram outcome on_program (NoProgram refusal refused e) = ap not_usage e
 
-  input_caused : (asked : Command) (ended : Status) (text : List ℕ) → Asks words asked → InputAnswer asked bytes ended text → Cause ended words bytes
-  input_caused command.Format ended text asks is =
-      source_caused command.Format PrintAnswer ended text asks tt (λ tree input printed. caused_as words bytes ended status.Ok printed.0 (Formats tree asks input)) is
-  input_caused (command.Compile options) ended text asks is = source_caused (command.Compile options) (FileAnswer options) ended text asks tt (λ tree input file. file_caused options tree ended text asks input file) is
-  input_caused command.Simulate ended text asks is = gates_caused command.Simulate SimulateAnswer ended text asks tt (simulate_caused ended text asks) is
-  input_caused command.Invert ended text asks is = gates_caused command.Invert InvertAnswer ended text asks tt (invert_caused ended text asks) is
+input-not_usage : (request : Request) (bytes : List ℕ) (outcome : Outcome) → InputAnswer request bytes outcome → not_usage outcome ≡ true
+input-not_usage Format bytes outcome is = source-not_usage bytes FormatAnswer outcome (λ tree e. ap not_usage e) is
+input-not_usage (Compile file) bytes outcome is = source-not_usage bytes (CompileAnswer file) outcome (λ tree. compile-not_usage file tree outcome) is
+input-not_usage Simulate bytes outcome is = gates-not_usage bytes SimulateAnswer outcome (λ file rest. simulate-not_usage file rest outcome) is
+input-not_usage Invert bytes outcome is = gates-not_usage bytes InvertAnswer outcome (λ file rest. invert-not_usage file rest outcome) is
 
-  caused : (ended : Status) (text : List ℕ) → Answer words bytes ended text → Cause ended words bytes
-  caused ended text (ToCommand asked asks is) = input_caused asked ended text asks is
-  caused ended text (Usage none e f) = caused_as words bytes ended status.Usage e none
+rule_or_usage : (r : Rule) → rule_status r ≡ status.Usage → ⊥
+rule_or_usage rule.Utf8 e = cc
+rule_or_usage other e = cc
 
--- a call that ended so had its cause
-pub only : (wanted : Status) (left before now : Option (List ℕ)) (words : List (List ℕ)) (ended : Status) → is_answer wanted ≡ true → Answered left before now words ended → ended ≡ wanted → IfSome left (Cause wanted words)
-only wanted left before now words ended is answered e = if_told left (λ bytes g. caused words bytes wanted g.text g.answer) (given_at left before now words wanted ended is e answered)
+usage_diagnostic : (why : Diagnostic) → refusal_status why ≡ status.Usage → not_usage (Refuses why) ≡ false
+usage_diagnostic diagnostic.Usage e = refl
+usage_diagnostic (diagnostic.Refused refusal) e = absurd (rule_or_usage refusal.rule e)
+usage_diagnostic other e = cc
+
+usage_answer : (words : List (List ℕ)) (bytes : List ℕ) (why : Diagnostic) → Answer words bytes (Refuses why) → refusal_status why ≡ status.Usage → IsUsage words
+usage_answer words bytes why (Usage none e) same = none
+usage_answer words bytes why (OnInput request asks few is) same = let e = sym (usage_diagnostic why same) ∙ input-not_usage request bytes (Refuses why) is in cc
+usage_answer words bytes why (TooLong request asks many is) same = let e = sym (usage_diagnostic why same) ∙ ap not_usage is in cc
+
+rule_not_ok : (r : Rule) → rule_status r ≡ status.Ok → ⊥
+rule_not_ok rule.Utf8 e = cc
+rule_not_ok other e = cc
+
+pub refusal_not_ok : (why : Diagnostic) → refusal_status why ≡ status.Ok → ⊥
+refusal_not_ok (diagnostic.Refused refusal) e = rule_not_ok refusal.rule e
+refusal_not_ok other e = cc
+
+-- a status comes only where its cause holds
+
+rule_cause : (words : List (List ℕ)) (bytes : List ℕ) (r : Rule) → IsRefusedWith (rule_status r) words bytes → Cause (rule_status r) words bytes
+rule_cause words bytes rule.Utf8 refused = refused
+rule_cause words bytes other refused = refused
+
+refusal_cause : (words : List (List ℕ)) (bytes : List ℕ) (why : Diagnostic) → Answer words bytes (Refuses why) → Cause (refusal_status why) words bytes
+refusal_cause words bytes diagnostic.Usage answer = usage_answer words bytes diagnostic.Usage answer refl
+refusal_cause words bytes (diagnostic.Refused refusal) answer = rule_cause words bytes refusal.rule (record { why = diagnostic.Refused refusal; answer = answer; status = refl })
+refusal_cause words bytes other answer = record { why = other; answer = answer; status = refl }
+
+outcome_cause : (words : List (List ℕ)) (bytes : List ℕ) (outcome : Outcome) → Answer words bytes outcome → Cause (outcome_status outcome) words bytes
+outcome_cause words bytes (Prints text) answer = (text, answer)
+outcome_cause words bytes (Refuses why) answer = refusal_cause words bytes why answer
+
+pub only_where : (left before now : Option (List ℕ)) (words : List (List ℕ)) (ended : Status) → Answered left before now words ended → IfSome left (λ bytes. IsCutShort ended ⊎ Cause ended words bytes)
+only_where left before now words ended answered = if_told left (λ bytes. by_gave bytes) (told_answer left before now words ended answered)
+  where
+    by_gave : (bytes : List ℕ) → IsCutShort ended ⊎ GaveWhole words bytes before now ended → IsCutShort ended ⊎ Cause ended words bytes
+    by_gave bytes (inl cut) = inl cut
+    by_gave bytes (inr gave) = inr (subst (λ (s : Status). Cause s words bytes) gave.status (outcome_cause words bytes gave.outcome gave.answer))
 
 pub usage_only : (left before now : Option (List ℕ)) (words : List (List ℕ)) (ended : Status) → Answered left before now words ended → ended ≡ status.Usage → IsUsage words
-usage_only left before now words ended answered e =
-    let g = given words answered.bytes before now status.Usage refl (subst (Gave words answered.bytes before now) e answered.gave) in
-    caused words answered.bytes status.Usage g.text g.answer
+usage_only left before now words ended answered e = by_gave (subst (λ (s : Status). Gave words answered.bytes before now s) e answered.gave)
+  where
+    by_outcome : (outcome : Outcome) → Answer words answered.bytes outcome → outcome_status outcome ≡ status.Usage → IsUsage words
+    by_outcome (Prints text) answer same = cc
+    by_outcome (Refuses why) answer same = usage_answer words answered.bytes why answer same
 
--- what the words and the bytes say of the status
+    by_gave : GaveWhole words answered.bytes before now status.Usage → IsUsage words
+    by_gave gave = by_outcome gave.outcome gave.answer gave.status
 
--- the bytes have an answer with this status
-abbrev HasAnswer : List (List ℕ) → Status → List ℕ → Type 0
-HasAnswer words wanted bytes = (text : List ℕ) × Answer words bytes wanted text
+-- where its cause holds, a status comes
 
-module _ (words : List (List ℕ)) (bytes : List ℕ) where
-  refused_answer : (wanted : Status) → IsRefusedWith wanted words bytes → HasAnswer words wanted bytes
-  refused_answer wanted cause = (refusal_line cause.refusal, ToCommand cause.command cause.asked (by_command cause.command cause.reads))
-    where
-      by_command : (asked : Command) → ReadsSource asked → InputAnswer asked bytes wanted (refusal_line cause.refusal)
-      by_command command.Format reads = Refused cause.refusal cause.refused (sym cause.status) refl
-      by_command (command.Compile options) reads = Refused cause.refusal cause.refused (sym cause.status) refl
-      by_command command.Simulate reads = absurd reads
-      by_command command.Invert reads = absurd reads
+-- an answer with this status
+record HasAnswer (words : List (List ℕ)) (bytes : List ℕ) (wanted : Status) : Type 0 where
+  outcome : Outcome
+  answer : Answer words bytes outcome
+  status : outcome_status outcome ≡ wanted
 
-  gate_fault_answer : (why : GateFault) (wanted : Status) (text : List ℕ) → ReadsFile words bytes → IsRefusedText bytes why → GateFaultAnswer why wanted text → Answer words bytes wanted text
-  gate_fault_answer why wanted text reads refused is = ToCommand reads.command reads.asked (by_command reads.command reads.reads)
-    where
-      by_command : (asked : Command) → ReadsGates asked → InputAnswer asked bytes wanted text
-      by_command command.Simulate gates_read = Within reads.within (gates.NoGateFile why refused is)
-      by_command command.Invert gates_read = Within reads.within (gates.NoFile why refused is)
-      by_command command.Format gates_read = absurd gates_read
-      by_command (command.Compile options) gates_read = absurd gates_read
+cause_answer : (words : List (List ℕ)) (bytes : List ℕ) (wanted : Status) → Cause wanted words bytes → HasAnswer words bytes wanted
+cause_answer words bytes status.Ok cause = record { outcome = Prints cause.0; answer = cause.1; status = refl }
+cause_answer words bytes status.Usage cause = record { outcome = Refuses diagnostic.Usage; answer = Usage cause refl; status = refl }
+cause_answer words bytes other cause = record { outcome = Refuses cause.why; answer = cause.answer; status = cause.status }
 
-  lines_answer : (file : File) (behind lines : List ℕ) (wanted : Status) (text : List ℕ) → Simulates words bytes file behind → HasLines behind lines → LinesAnswer file lines wanted text → Answer words bytes wanted text
-  lines_answer file behind lines wanted text simulates has is = ToCommand command.Simulate simulates.asked (Within simulates.within (gates.OnLines file behind lines simulates.begins simulates.level has is))
+pub comes : (left before now : Option (List ℕ)) (words : List (List ℕ)) (ended : Status) → Answered left before now words ended → (wanted : Status) → IfSome left (λ bytes. Cause wanted words bytes → (ended ≡ wanted) ⊎ IsCutShort ended)
+comes left before now words ended answered wanted = if_told left (λ bytes gave cause. by_gave bytes (cause_answer words bytes wanted cause) gave) (told_answer left before now words ended answered)
+  where
+    by_gave : (bytes : List ℕ) → HasAnswer words bytes wanted → IsCutShort ended ⊎ GaveWhole words bytes before now ended → (ended ≡ wanted) ⊎ IsCutShort ended
+    by_gave bytes has (inl cut) = inr cut
+    by_gave bytes has (inr gave) = inl (sym gave.status ∙ (ap outcome_status (one_answer words bytes gave.outcome has.outcome gave.answer has.answer) ∙ has.status))
 
-  long_answer : (asked : Command) → ReadsGates asked → input_limit < length bytes → InputAnswer asked bytes status.Limit (refusal_line too_long)
-  long_answer command.Simulate reads long = TooLong long refl refl
-  long_answer command.Invert reads long = TooLong long refl refl
-  long_answer command.Format reads long = absurd reads
-  long_answer (command.Compile options) reads long = absurd reads
+-- the whole answer was given, where no device failed
 
-  limit_answer : IsPastLimit words bytes → HasAnswer words status.Limit bytes
-  limit_answer (OfSource refused) = refused_answer status.Limit refused
-  limit_answer (OfLength asked asks reads long) = (refusal_line too_long, ToCommand asked asks (long_answer asked reads long))
-  limit_answer (OfGates refusal reads refused) = (refusal_line refusal, gate_fault_answer (gate_fault.Over refusal) status.Limit (refusal_line refusal) reads refused (refl, refl))
-  limit_answer (OfLines file behind lines refusal simulates has refused) =
-      (refusal_line refusal, lines_answer file behind lines status.Limit (refusal_line refusal) simulates has (gates.BadLines (lines_fault.Over refusal) refused (refl, refl)))
+pub complete : (left before now : Option (List ℕ)) (words : List (List ℕ)) (ended : Status) → (ended ≡ status.ReadFault → ⊥) → (ended ≡ status.WriteFault → ⊥) → Answered left before now words ended → IsComplete left before now words ended
+complete left before now words ended no_read no_write answered = by_source left answered.told
+  where
+    by_status : (s : Status) → ended ≡ s → Gave words answered.bytes before now s → ((ended ≡ status.Memory) × Appends before now []) ⊎ GaveWhole words answered.bytes before now ended
+    by_status status.Memory e gave = inl (e, gave)
+    by_status status.ReadFault e gave = absurd (no_read e)
+    by_status status.WriteFault e gave = absurd (no_write e)
+    by_status other e gave = inr (subst (λ (s : Status). GaveWhole words answered.bytes before now s) (sym e) gave)
 
-  bad_gate_text_answer : IsBadGateText words bytes → HasAnswer words status.BadGateText bytes
-  bad_gate_text_answer (InFile number reads refused) = (bad_gate_text number, gate_fault_answer (gate_fault.BadGateText number) status.BadGateText (bad_gate_text number) reads refused (refl, refl))
-  bad_gate_text_answer (BehindFile file behind asks few begins some) =
-      (bad_gate_text (number_behind file), ToCommand command.Invert asks (Within few (gates.GoesOn file behind begins some refl refl)))
-  bad_gate_text_answer (NoMark file behind simulates none) =
-      (bad_gate_text (number_behind file), ToCommand command.Simulate simulates.asked (Within simulates.within (gates.OtherLine file behind simulates.begins simulates.level none refl refl)))
-
-  fine_answer : IsFine words bytes → HasAnswer words status.Ok bytes
-  fine_answer (Formats tree asks input) = (program_print tree, ToCommand command.Format asks (OnTree tree input (refl, refl)))
-  fine_answer (Compiles options tree function asks input first) =
-      (file_text (file_of options.widths options.inverse function), ToCommand (command.Compile options) asks (OnTree tree input (Built function first refl refl)))
-  fine_answer (Inverts file asks few begins) = (file_text (inverse_file file), ToCommand command.Invert asks (Within few (gates.Inverted file begins (refl, refl))))
-  fine_answer (OnLines file behind lines states simulates has are) =
-      (bit_lines (map (act file.gates) states), lines_answer file behind lines status.Ok (bit_lines (map (act file.gates) states)) simulates has (gates.Simulated states are refl refl))
-
-  answer_of : (wanted : Status) → Cause wanted words bytes → HasAnswer words wanted bytes
-  answer_of status.Ok cause = fine_answer cause
-  answer_of status.Usage cause = (codes "refused usage\n", Usage cause refl refl)
-  answer_of status.Limit cause = limit_answer cause
-  answer_of status.BadGateText cause = bad_gate_text_answer cause
-  answer_of status.BitsLength cause =
-      let text = numbered_line (codes "bits-length") cause.number in
-      (text, lines_answer cause.file cause.behind cause.lines status.BitsLength text cause.simulates cause.has (gates.BadLines (lines_fault.BitsLength cause.number) cause.refused (refl, refl)))
-  answer_of status.LevelT cause = (codes "refused level-t\n", ToCommand command.Simulate cause.asked (Within cause.within (gates.OfLevelT cause.file cause.behind cause.begins cause.level refl refl)))
-  answer_of status.NotBuilt cause = (codes "refused not-built\n", ToCommand (command.Compile cause.options) cause.asked (OnTree cause.tree cause.input (NotBuilt cause.no_first refl refl)))
-  answer_of wanted cause = refused_answer wanted cause
-
--- the call ended with the answer's status, or it was cut short
-ends_so : (words : List (List ℕ)) (bytes text : List ℕ) (before now : Option (List ℕ)) (wanted ended : Status) → Answer words bytes wanted text → Gave words bytes before now ended → (ended ≡ wanted) ⊎ IsCutShort ended
-ends_so words bytes text before now wanted status.Memory answer gave = inr (inl refl)
-ends_so words bytes text before now wanted status.ReadFault answer gave = inr (inr (inl refl))
-ends_so words bytes text before now wanted status.WriteFault answer gave = inr (inr (inr refl))
-ends_so words bytes text before now wanted ended answer gave = inl (one_answer words bytes ended wanted gave.0 text gave.1 answer).0
-
--- where there is the cause of a status, the call ended so or was cut short
-pub ends_where : (wanted : Status) (left before now : Option (List ℕ)) (words : List (List ℕ)) (ended : Status) → Answered left before now words ended → EndsWhere left (Cause wanted words) wanted ended
-ends_where wanted None before now words ended answered = tt
-ends_where wanted (Some all) before now words ended answered =
-    λ cause. let found = subst (HasAnswer words wanted) answered.told (answer_of words all wanted cause) in ends_so words answered.bytes found.0 before now wanted ended found.1 answered.gave
-
--- what was given with a status that tells of no fault is whole, or nothing
-given-whole : (words : List (List ℕ)) (bytes : List ℕ) (before now : Option (List ℕ)) (ended : Status) → ended ≢ status.ReadFault → ended ≢ status.WriteFault → Gave words bytes before now ended →
-    ((ended ≡ status.Memory) × Appends before now []) ⊎ ((text : List ℕ) × Answer words bytes ended text × Appends before now text)
-given-whole words bytes before now status.Memory no_read no_write gave = inl (refl, gave)
-given-whole words bytes before now status.ReadFault no_read no_write gave = absurd (no_read refl)
-given-whole words bytes before now status.WriteFault no_read no_write gave = absurd (no_write refl)
-given-whole words bytes before now ended no_read no_write gave = inr gave
-
-pub complete : (left before now : Option (List ℕ)) (words : List (List ℕ)) (ended : Status) → ended ≢ status.ReadFault → ended ≢ status.WriteFault → Answered left before now words ended → IsComplete left before now words ended
-complete None before now words ended no_read no_write answered = tt
-complete (Some all) before now words ended no_read no_write answered =
-    given-whole words all before now ended no_read no_write (subst (λ (b : List ℕ). Gave words b before now ended) (sym answered.told) answered.gave)
+    by_source : (from : Option (List ℕ)) → IfSome from (λ all. all ≡ answered.bytes) → IsComplete from before now words ended
+    by_source None told = tt
+    by_source (Some all) told = subst (λ (b : List ℕ). ((ended ≡ status.Memory) × Appends before now []) ⊎ GaveWhole words b before now ended) (sym told) (by_status ended refl answered.gave)

@@ -1,28 +1,81 @@
--- How a call that writes an answer ends.
-use Rattle.std.specs.Prelude.{◌≡◌, ◌≤◌, ◌⊎◌, ℕ, List, Option, Result, Ok, Err}
-use Rattle.tw_io.specs.Devices.{Rose, Appends, AppendsFront}
-use Rattle.tw_io.specs.declared.outside.WriteFault.{WriteFault}
+-- What a command did to the sink, and how the call ends after it.
+use Rattle.std.specs.Prelude.{◌≡◌, ◌≢◌, ℕ, ◌⊎◌, List, Option, Result, Ok, Err}
+use Rattle.tw_io.specs.Devices.{Rose, Appends, AppendsPrefix}
+use Rattle.tw_text.specs.declared.refusal.Fault.{Fault}
+use Rattle.tw_text.specs.declared.refusal.Fault.TheVariants as source_fault
+use Rattle.tw_text.specs.declared.diagnostic.Diagnostic.{Diagnostic}
+use Rattle.tw_text.specs.declared.diagnostic.Diagnostic.TheVariants as diagnostic
+use Rattle.tw_gatetext.specs.declared.file.GateFault.{GateFault}
+use Rattle.tw_gatetext.specs.declared.file.GateFault.TheVariants as gate_fault
+use Rattle.tw_sim.specs.declared.lines.LinesFault.{LinesFault}
+use Rattle.tw_sim.specs.declared.lines.LinesFault.TheVariants as lines_fault
 use Rattle.tower.specs.declared.status.Status.{Status}
 use Rattle.tower.specs.declared.status.Status.TheVariants as status
+use Rattle.tower.specs.declared.ending.Unanswered.{Unanswered}
+use Rattle.tower.specs.declared.ending.Unanswered.TheVariants as unanswered
+use Rattle.tw_text.specs.Refusals.{diagnostic_line}
+use Rattle.tower.specs.Outcomes.{Outcome, Prints, Refuses, refusal_status}
 
--- the sink failed and took a front of the text
-pub record FailedIn {K : Type 0} (taken : K → Option (List ℕ)) (faults : K → ℕ) (old new : K) (ended : Status) (text : List ℕ) : Type 0 where
-  pub failed : ended ≡ status.WriteFault
-  pub front : AppendsFront (taken old) (taken new) text
-  pub cause : Rose (faults old) (faults new)
+-- why a command gives no text, by the error of the call that failed
+abbrev pub of_source : Fault → Unanswered
+of_source (source_fault.Refused refusal) = unanswered.Refused (diagnostic.Refused refusal)
+of_source source_fault.Memory = unanswered.Memory
 
--- the sink took the text, and the call ended with its status; or the sink failed
-pub record Ends {K : Type 0} (taken : K → Option (List ℕ)) (faults : K → ℕ) (old new : K) (ended answer : Status) (text : List ℕ) : Type 0 where
-  pub gave : ((ended ≡ answer) × Appends (taken old) (taken new) text) ⊎ FailedIn taken faults old new ended text
-  pub steady : faults old ≤ faults new
+abbrev pub of_gates : GateFault → Unanswered
+of_gates (gate_fault.BadGateText line) = unanswered.Refused (diagnostic.BadGateText line)
+of_gates (gate_fault.Over refusal) = unanswered.Refused (diagnostic.Refused refusal)
+of_gates gate_fault.Memory = unanswered.Memory
 
--- the status of an answer that was written, else that of a fault of the sink
-abbrev pub finished : Result (Unit {0}) WriteFault → Status → Status
-finished (Ok written) answer = answer
-finished (Err fault) answer = status.WriteFault
+abbrev pub of_lines : LinesFault → Unanswered
+of_lines (lines_fault.BitsLength line) = unanswered.Refused (diagnostic.BitsLength line)
+of_lines (lines_fault.Over refusal) = unanswered.Refused (diagnostic.Refused refusal)
+of_lines lines_fault.Memory = unanswered.Memory
 
--- the call ended with an answer of these, written whole or broken off by a fault of the sink; or memory was wanting and
--- nothing was written
-pub data Gives {K : Type 0} (taken : K → Option (List ℕ)) (faults : K → ℕ) (old new : K) (ended : Status) (IsAnswer : Status → List ℕ → Type 0) : Type 0 where
-  Answers : (status : Status) (text : List ℕ) → IsAnswer status text → Ends taken faults old new ended status text → Gives taken faults old new ended IsAnswer
-  Unwritten : ended ≡ status.Memory → new ≡ old → Gives taken faults old new ended IsAnswer
+-- a device's error counter rose where the call ended with this fault of it, and nowhere else
+pub record IsKept (fault : Status) (before now : ℕ) (ended : Status) : Type 0 where
+  pub rose : ended ≡ fault → Rose before now
+  pub kept : ended ≢ fault → now ≡ before
+
+module _ {K : Type 0} (taken : K → Option (List ℕ)) (faults : K → ℕ) where
+  -- the sink took a text that answers
+  pub record Printed (old new : K) (IsAnswer : Outcome → Type 0) : Type 0 where
+    pub text : List ℕ
+    pub answer : IsAnswer (Prints text)
+    pub took : Appends (taken old) (taken new) text
+    pub steady : faults new ≡ faults old
+
+  -- the sink failed in a text that answers, of which it took a prefix
+  pub record Broke (old new : K) (IsAnswer : Outcome → Type 0) : Type 0 where
+    pub text : List ℕ
+    pub answer : IsAnswer (Prints text)
+    pub took : AppendsPrefix (taken old) (taken new) text
+    pub cause : Rose (faults old) (faults new)
+
+  -- what a command did: Ok wrote a text that answers; a refusal is an answer, and nothing is written yet; without memory nothing
+  -- was written; at a device fault the sink took a prefix of a text that answers
+  abbrev pub Did : K → K → Result (Unit {0}) Unanswered → (Outcome → Type 0) → Type 0
+  Did old new (Ok done) IsAnswer = Printed old new IsAnswer
+  Did old new (Err (unanswered.Refused why)) IsAnswer = IsAnswer (Refuses why) × (new ≡ old)
+  Did old new (Err unanswered.Memory) IsAnswer = new ≡ old
+  Did old new (Err unanswered.WriteFault) IsAnswer = Broke old new IsAnswer
+
+  -- the sink took the line of a refusal, and this is its status; or the sink failed
+  pub record RefusedWhole (old new : K) (why : Diagnostic) (ended : Status) : Type 0 where
+    pub status : ended ≡ refusal_status why
+    pub took : Appends (taken old) (taken new) (diagnostic_line why)
+    pub steady : faults new ≡ faults old
+
+  pub record RefusedPrefix (old new : K) (why : Diagnostic) (ended : Status) : Type 0 where
+    pub status : ended ≡ status.WriteFault
+    pub took : AppendsPrefix (taken old) (taken new) (diagnostic_line why)
+    pub cause : Rose (faults old) (faults new)
+
+  abbrev pub Refused : K → K → Diagnostic → Status → Type 0
+  Refused old new why ended = RefusedWhole old new why ended ⊎ RefusedPrefix old new why ended
+
+  -- how a call ends after a command: a refusal is written now, and nothing else is
+  abbrev pub Finished : K → K → Result (Unit {0}) Unanswered → Status → Type 0
+  Finished old new (Ok done) ended = (ended ≡ status.Ok) × (new ≡ old)
+  Finished old new (Err (unanswered.Refused why)) ended = Refused old new why ended
+  Finished old new (Err unanswered.Memory) ended = (ended ≡ status.Memory) × (new ≡ old)
+  Finished old new (Err unanswered.WriteFault) ended = (ended ≡ status.WriteFault) × (new ≡ old)

@@ -3,7 +3,7 @@ use Rattle.std.specs.Prelude.{Option, option_map}
 use denote.Ref.{Bor}
 use Rattle.tw_state.specs.States.{Name}
 use Rattle.tower.specs.Form as plain
-use Rattle.tower.specs.declared.form.Form.{Form}
+use Rattle.tower.specs.declared.first_form.Form.{Form}
 
 abbrev pub name_seen : Bor Name → Name
 name_seen name = name.now

@@ -1,34 +1,83 @@
-//! How a call that writes an answer ends.
+//! How a call ends whose command has done its work.
 ghost use Rattle.std.specs.Prelude.{◌≡◌};
-ghost use Rattle.tw_text.specs.declared.refusal.Refusal.{Refusal};
-ghost use Rattle.tw_text.specs.Refusals.{refusal_line};
-ghost use Rattle.tower.specs.Refused.{status_of};
-ghost use Rattle.tower.specs.Ending.{Ends, finished};
+ghost use Rattle.tower.specs.declared.ending.Unanswered.TheVariants as unanswered;
+ghost use Rattle.tower.specs.Outcomes.{rule_status, refusal_status};
+ghost use Rattle.tower.specs.Ending.{of_source, of_gates, of_lines, Refused, Finished};
 
 use crate::status::Status;
+use std::alloc::AllocError;
+use tw_gatetext::GateFault;
 use tw_io::{Sink, WriteFault, write_all};
-use tw_text::{Refusal, Rule};
+use tw_sim::LinesFault;
+use tw_text::{Diagnostic, Fault, Rule};
 
-/// The status where the answer was written, else that of a fault of the sink.
-pub fn finish(written: Result<(), WriteFault>, status: Status) -> Status
-    ensures { result ≡ finished written status }
-{
-    match written {
-        Ok(()) => status,
-        Err(WriteFault) => Status::WriteFault,
+/// Why a command wrote no whole text.
+#[derive(Debug, Clone, Copy, PartialEq, Eq)]
+pub enum Unanswered {
+    /// The request is refused. Nothing is written yet.
+    Refused(Diagnostic),
+    /// Memory ran out. Nothing was written.
+    Memory,
+    /// The sink failed; it took a prefix of the text.
+    WriteFault,
+}
+
+impl From<Fault> for Unanswered {
+    ghost from_gives = { λ fault e. e ≡ of_source fault };
+
+    fn from(fault: Fault) -> Unanswered {
+        match fault {
+            Fault::Refused(refusal) => Unanswered::Refused(Diagnostic::Refused(refusal)),
+            Fault::Memory => Unanswered::Memory,
+        }
     }
 }
 
-/// Writes a line, as the answer of this status.
-pub fn refuse<K: Sink>(output: &mut K, status: Status, line: &[u8]) -> Status
-    ensures { Ends K.taken K.faults output.old output.new result status line.now }
-{
-    finish(write_all(output, line), status)
+impl From<GateFault> for Unanswered {
+    ghost from_gives = { λ fault e. e ≡ of_gates fault };
+
+    fn from(fault: GateFault) -> Unanswered {
+        match fault {
+            GateFault::BadGateText { line } => {
+                Unanswered::Refused(Diagnostic::BadGateText { line })
+            }
+            GateFault::Over(refusal) => Unanswered::Refused(Diagnostic::Refused(refusal)),
+            GateFault::Memory => Unanswered::Memory,
+        }
+    }
+}
+
+impl From<LinesFault> for Unanswered {
+    ghost from_gives = { λ fault e. e ≡ of_lines fault };
+
+    fn from(fault: LinesFault) -> Unanswered {
+        match fault {
+            LinesFault::BitsLength { line } => Unanswered::Refused(Diagnostic::BitsLength { line }),
+            LinesFault::Over(refusal) => Unanswered::Refused(Diagnostic::Refused(refusal)),
+            LinesFault::Memory => Unanswered::Memory,
+        }
+    }
+}
+
+impl From<WriteFault> for Unanswered {
+    ghost from_gives = { λ _ e. e ≡ unanswered.WriteFault };
+
+    fn from(_fault: WriteFault) -> Unanswered {
+        Unanswered::WriteFault
+    }
+}
+
+impl From<AllocError> for Unanswered {
+    ghost from_gives = { λ _ e. e ≡ unanswered.Memory };
+
+    fn from(_error: AllocError) -> Unanswered {
+        Unanswered::Memory
+    }
 }
 
 /// The status of a refusal by this rule.
-fn status_of(rule: Rule) -> Status
-    ensures { result ≡ status_of rule }
+fn rule_status(rule: Rule) -> Status
+    ensures { result ≡ rule_status rule }
 {
     match rule {
         Rule::Utf8 => Status::Utf8,
@@ -59,16 +108,38 @@ fn status_of(rule: Rule) -> Status
     }
 }
 
-/// Writes the line of a refusal.
-pub fn refuse_source<K: Sink>(output: &mut K, refusal: &Refusal) -> Status
-    ensures { Ends K.taken K.faults output.old output.new result (status_of refusal.now.rule) (refusal_line refusal.now) }
+/// The status of a refusal.
+fn refusal_status(why: &Diagnostic) -> Status
+    ensures { result ≡ refusal_status why.now }
 {
-    refuse(output, status_of(refusal.rule), refusal.line().as_bytes())
+    match why {
+        Diagnostic::Usage => Status::Usage,
+        Diagnostic::Refused(refusal) => rule_status(refusal.rule),
+        Diagnostic::BadGateText { .. } => Status::BadGateText,
+        Diagnostic::BitsLength { .. } => Status::BitsLength,
+        Diagnostic::LevelT => Status::LevelT,
+        Diagnostic::NotBuilt => Status::NotBuilt,
+    }
 }
 
-/// Writes the line of a limit that is passed by what is no source, so that its rule need not be tried.
-pub fn refuse_limit<K: Sink>(output: &mut K, refusal: &Refusal) -> Status
-    ensures { Ends K.taken K.faults output.old output.new result Status.Limit (refusal_line refusal.now) }
+/// Writes the line of a refusal, and gives its status, or that of a fault of the sink.
+pub fn refuse<K: Sink>(output: &mut K, why: &Diagnostic) -> Status
+    ensures { Refused K.taken K.faults output.old output.new why.now result }
 {
-    refuse(output, Status::Limit, refusal.line().as_bytes())
+    match write_all(output, why.line().as_bytes()) {
+        Ok(()) => refusal_status(why),
+        Err(WriteFault) => Status::WriteFault,
+    }
+}
+
+/// Ends a call whose command did this: writes the line of a refusal, and gives the status.
+pub fn finish<K: Sink>(output: &mut K, did: Result<(), Unanswered>) -> Status
+    ensures { Finished K.taken K.faults output.old output.new did result }
+{
+    match did {
+        Ok(()) => Status::Ok,
+        Err(Unanswered::Refused(why)) => refuse(output, &why),
+        Err(Unanswered::Memory) => Status::Memory,
+        Err(Unanswered::WriteFault) => Status::WriteFault,
+    }
 }

@@ -1,21 +1,20 @@
-//! The compiler as one call, from words and a source of bytes to a sink of bytes and a status.
+//! The compiler as one call, from command-line arguments and a source of bytes to a sink of bytes and a status.
+//! Each command has a file here and one of the same name in `specs/`, which says what it answers; `specs/Answer.antt` says what a
+//! call answers to arguments and an input.
 #![tactic(auto)]
 
-mod build;
 mod call;
-mod commands;
+mod compile;
 mod ending;
-mod form;
-mod gate_faults;
-mod inverting;
-mod numbered;
+mod first_form;
+mod format;
+mod invert;
 mod options;
-mod run;
-mod simulating;
+mod request;
+mod simulate;
 mod status;
 #[cfg(test)]
 mod tests;
-mod wires;
 mod words;
 
 pub use call::tower_main;

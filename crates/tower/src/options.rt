@@ -1,183 +1,135 @@
-//! The words of a call, read one after the other.
-ghost use Rattle.std.specs.Prelude.{◌≡◌, drop};
-ghost use Rattle.tower.specs.ReadingWords.{number_in, after_key, after_value, after_word, settings_of, nothing, settings_after, alone, read_words};
+//! The options of a command: keys, each with a value or alone.
+ghost use Rattle.std.specs.Prelude.{◌≡◌, ◌≢◌, ◌<◌, [], length, drop, set, IfSome};
+ghost use Rattle.std.specs.Option.{IfNone};
+ghost use Rattle.tower.specs.Requests.{is_flag, key_place};
+ghost use Rattle.tower.specs.Given.{key_among, keys, choice_size, value_given, IsChoiceAt, IsNoChoiceAt, AreGiven, AreNotGiven};
 
 use crate::words::Words;
-use tw_types::Widths;
 
-/// What `compile` is asked for.
+/// The key of an option.
 #[derive(Debug, Clone, Copy, PartialEq, Eq)]
-pub struct Options {
-    /// The widths that the program is compiled for.
-    pub widths: Widths,
-    /// Whether the inverse file is wanted.
-    pub inverse: bool,
-}
-
-/// What a call is asked for.
-#[derive(Debug, Clone, Copy, PartialEq, Eq)]
-pub enum Command {
-    /// The printed form of a program.
-    Format,
-    /// The gate file of a program, or the inverse file.
-    Compile(Options),
-    /// What the gates of a file make of lines of bits.
-    Simulate,
-    /// The inverse of a gate file.
-    Invert,
-}
-
-/// An option whose value is the next word.
-#[derive(Debug, Clone, Copy, PartialEq, Eq)]
-enum Key {
+pub enum Key {
+    /// The width of a word.
     Word,
+    /// The width of an address.
     Addr,
+    /// The function that is compiled.
     Entry,
+    /// The inverse file is wanted.
+    Inverse,
 }
 
-/// What the words so far have given.
-#[derive(Debug, Clone, Copy, PartialEq, Eq)]
-struct Given {
-    pending: Option<Key>,
-    word: Option<u32>,
-    addr: Option<u32>,
-    entry: bool,
-    inverse: bool,
-}
+/// How many keys there are.
+const KEY_COUNT: usize = 4;
 
-const NOTHING: Given = Given {
-    pending: None,
-    word: None,
-    addr: None,
-    entry: false,
-    inverse: false,
-};
-
-impl Given {
-    #[tactic(auto, unfolding(crate::specs::ReadingWords::after_key))]
-    fn after_key(self, word: &str) -> Option<Given>
-        ensures { result ≡ after_key self word.now }
+impl Key {
+    /// The key that is written so.
+    fn from_text(word: &str) -> Option<Key>
+        ensures { result ≡ key_among word.now keys }
     {
         match word {
-            "--word" => Some(Given {
-                pending: Some(Key::Word),
-                ..self
-            }),
-            "--addr" => Some(Given {
-                pending: Some(Key::Addr),
-                ..self
-            }),
-            "--entry" => Some(Given {
-                pending: Some(Key::Entry),
-                ..self
-            }),
-            "--inverse" if !self.inverse => Some(Given {
-                inverse: true,
-                ..self
-            }),
+            "--word" => Some(Key::Word),
+            "--addr" => Some(Key::Addr),
+            "--entry" => Some(Key::Entry),
+            "--inverse" => Some(Key::Inverse),
             _ => None,
         }
     }
 
-    #[tactic(auto, unfolding(crate::specs::ReadingWords::after_value))]
-    fn after_value(self, key: Key, word: &str) -> Option<Given>
-        ensures { result ≡ after_value self key word.now }
+    /// Whether the key is a whole option; otherwise the next argument is its value.
+    fn is_flag(self) -> bool
+        ensures { result ≡ is_flag self }
     {
-        match key {
-            Key::Word if self.word.is_none() => {
-                let width = number_in(32, word)?;
-                Some(Given {
-                    pending: None,
-                    word: Some(width),
-                    ..self
-                })
-            }
-            Key::Addr if self.addr.is_none() => {
-                let width = number_in(8, word)?;
-                Some(Given {
-                    pending: None,
-                    addr: Some(width),
-                    ..self
-                })
-            }
-            Key::Entry if !self.entry && word == "main" => {
-                Some(Given {
-                    pending: None,
-                    entry: true,
-                    ..self
-                })
-            }
-            _ => None,
-        }
+        self == Key::Inverse
     }
 
-    fn after_word(self, word: &str) -> Option<Given>
-        ensures { result ≡ after_word self word.now }
+    /// How many arguments an option with this key takes.
+    fn size(self) -> usize
+        ensures { result ≡ choice_size self }
     {
-        match self.pending {
-            None => self.after_key(word),
-            Some(key) => self.after_value(key, word),
-        }
+        if self.is_flag() { 1 } else { 2 }
     }
 
-    fn settings(self) -> Option<Options>
-        ensures { result ≡ settings_of self }
+    /// The place of the key in a table of all keys.
+    fn place(self) -> usize
+        ensures place { result ≡ key_place self }
+        ensures within { result < KEY_COUNT }
     {
-        match (self.pending, self.word, self.addr) {
-            (None, Some(word), Some(addr)) if self.entry => Some(Options {
-                widths: Widths { word, addr },
-                inverse: self.inverse,
-            }),
-            _ => None,
-        }
+        self as usize
     }
 }
 
-/// The number that a word writes, where it is from 1 to the limit.
-fn number_in(limit: u32, word: &str) -> Option<u32>
-    ensures { result ≡ number_in limit word.now }
+/// An option: its key, and its value, which is empty for a flag.
+#[derive(Clone, Copy)]
+struct Choice<'w> {
+    key: Key,
+    value: &'w str,
+}
+
+/// The option whose key is the argument at a place.
+fn choice_at(words: &Words, place: usize) -> Option<Choice<'_>>
+    requires { place < length words.now }
+    ensures some { IfSome result (λ choice. IsChoiceAt (drop place words.now) choice.key choice.value.now) }
+    ensures none { IfNone result (IsNoChoiceAt (drop place words.now)) }
 {
-    let number = tw_text::whole_decimal(word.as_bytes())?;
-    if 1 <= number && number <= u64::from(limit) {
-        Some(number as u32)
-    } else {
-        None
+    let key = Key::from_text(words.word(place))?;
+    if key.is_flag() {
+        return Some(Choice { key, value: "" });
     }
-}
-
-/// The options behind `compile`.
-fn options_of(words: &Words) -> Option<Options>
-    ensures { result ≡ settings_after nothing (drop 1 words.now) }
-{
-    let mut given = NOTHING;
-    for place in 1..words.len() {
-        given = given.after_word(words.word(place))?;
-    }
-    given.settings()
-}
-
-/// A command without options, where nothing stands behind its word.
-fn alone(command: Command, words: &Words) -> Option<Command>
-    ensures { result ≡ alone command (drop 1 words.now) }
-{
-    if words.len() < 2 { Some(command) } else { None }
-}
-
-/// What the words ask for, if they are a command and its options.
-pub fn command_of(words: &Words) -> Option<Command>
-    ensures { result ≡ read_words words.now }
-{
-    if words.is_empty() {
+    if words.len() - place < 2 {
         return None;
     }
-    match words.word(0) {
-        "compile" => {
-            let options = options_of(words)?;
-            Some(Command::Compile(options))
-        }
-        "format" => alone(Command::Format, words),
-        "sim" => alone(Command::Simulate, words),
-        "invert" => alone(Command::Invert, words),
-        _ => None,
+    Some(Choice {
+        key,
+        value: words.word(place + 1),
+    })
+}
+
+/// The values that were given to the keys, each at most once.
+#[derive(Clone, Copy)]
+pub struct Given<'w> {
+    values: [Option<&'w str>; KEY_COUNT],
+}
+
+impl<'w> Given<'w> {
+    /// The value that was given to a key.
+    pub fn value(&self, key: Key) -> Option<&'w str>
+        ensures { result ≡ value_given self.now.values key }
+    {
+        self.values[key.place()]
     }
+
+    /// These values with one more option, unless its key was given before.
+    fn with(mut self, choice: Choice<'w>) -> Option<Given<'w>>
+        ensures some { IfSome result (λ given. (value_given self.entry.values choice.entry.key ≡ None)
+            × (key_place choice.entry.key < length self.entry.values)
+            × (given.values ≡ set self.entry.values (key_place choice.entry.key) (Some choice.entry.value))) }
+        ensures none { IfNone result (value_given self.entry.values choice.entry.key ≢ None) }
+    {
+        let place = choice.key.place();
+        let before = self.values[place];
+        if before.is_some() {
+            return None;
+        }
+        self.values[place] = Some(choice.value);
+        Some(self)
+    }
+}
+
+/// The options that follow the command, if they are options of which each is given at most once.
+pub fn options_of(words: &Words) -> Option<Given<'_>>
+    requires { 0 < length words.now }
+    ensures some { IfSome result (λ given. AreGiven (drop 1 words.now) [] given.values) }
+    ensures none { IfNone result (AreNotGiven (drop 1 words.now)) }
+{
+    let mut given = Given {
+        values: [None; KEY_COUNT],
+    };
+    let mut place = 1;
+    while place < words.len() {
+        let choice = choice_at(words, place)?;
+        given = given.with(choice)?;
+        place += choice.key.size();
+    }
+    Some(given)
 }

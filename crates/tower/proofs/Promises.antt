@@ -1,0 +1,135 @@
+-- What was printed keeps its promises.
+use Rattle.std.proofs.Common.{◌≡◌, ◌≢◌, ◌∙◌, ◌≤◌, ap, sym, subst, ℕ, ◌⊎◌, inl, inr, List, Option, IfSome}
+use Rattle.tw_io.specs.Devices.{Appends}
+use Rattle.tw_text.specs.declared.diagnostic.Diagnostic.{Diagnostic}
+use Rattle.tw_syntax.specs.Programs.{ProgramTree}
+use Rattle.tw_parse.specs.Sources.{IsSource}
+use Rattle.tw_print.proofs.ReadBack.{reads_back}
+use Rattle.tw_gate.specs.declared.gate.Level.TheVariants as levels
+use Rattle.tw_gate.specs.Gates.{PlainGate}
+use Rattle.tw_gate.proofs.Inverse.{inverse-twice}
+use Rattle.tw_gatetext.specs.Text.{File}
+use Rattle.tw_gatetext.specs.Files.{BeginsWith}
+use Rattle.tw_gatetext.proofs.ValidFiles.{valid-inverse, classical, permutes-file}
+use Rattle.tower.specs.declared.status.Status.{Status}
+use Rattle.tower.specs.declared.status.Status.TheVariants as status
+use Rattle.tower.specs.Requests.{FileRequest, Request, Format, Compile, Simulate, Invert, Asks}
+use Rattle.tower.specs.Outcomes.{Outcome, Prints, Refuses, outcome_status, outcome_text}
+use Rattle.tower.specs.Sources.{SourceAnswer, OnTree, NoProgram}
+use Rattle.tower.specs.GateInputs.{GatesAnswer, OnPrefix, WrongLine, PastLimit}
+use Rattle.tower.specs.Format.{FormatAnswer, Formatted}
+use Rattle.tower.specs.Compile.{CompileAnswer, Built, NotBuilt, Compiled, file_of}
+use Rattle.tower.specs.Invert as invert
+use Rattle.tower.specs.Invert.{InvertAnswer, Inverted, inverse_file}
+use Rattle.tower.specs.Simulate as simulate
+use Rattle.tower.specs.Simulate.{HasLines, LinesAnswer, OnStates, SimulateAnswer, OfLevelT, OnLines, OtherLine, Simulated}
+use Rattle.tower.specs.Answer.{InputAnswer, Answer, OnInput, TooLong, Usage, GaveWhole, Answered, IsCutShort}
+use Rattle.tower.proofs.Compiles.{compiled}
+use Rattle.tower.proofs.TypesMeant.{meant-booleans}
+use Rattle.tower.proofs.OneRequest.{one_request}
+use Rattle.tower.proofs.WhenEnded.{if_told, told_answer, refusal_not_ok}
+
+text_is : (text other : List ℕ) → Prints text ≡ Prints other → text ≡ other
+text_is text other e = cc
+
+no_text : (text : List ℕ) (why : Diagnostic) → Prints text ≡ Refuses why → ⊥
+no_text text why e = cc
+
+module _ (bytes text : List ℕ) (before now : Option (List ℕ)) (took : Appends before now text) where
+  formats : SourceAnswer bytes FormatAnswer (Prints text) → Formatted bytes before now
+  formats (OnTree tree source e) = record { tree = tree; source = source; printed = subst (Appends before now) (text_is text _ e) took; reads_back = reads_back tree bytes source }
+  formats (NoProgram refusal refused e) = absurd (no_text text _ e)
+
+  compiles_tree : (request : FileRequest) → request.widths.addr ≤ 8 → (tree : ProgramTree) → IsSource bytes tree → CompileAnswer request tree (Prints text) → Compiled request bytes before now
+  compiles_tree request narrow tree source (Built function first e) = record {
+    tree = tree;
+    source = source;
+    function = function;
+    first = first;
+    file = file_of request.widths request.inverse function;
+    printed = subst (Appends before now) (text_is text _ e) took;
+    compiled = compiled request first.conjunction (meant-booleans first.fun function first.meant) first.one_or_two.1 narrow;
+  }
+  compiles_tree request narrow tree source (NotBuilt none e) = absurd (no_text text _ e)
+
+  compiles : (request : FileRequest) → request.widths.addr ≤ 8 → SourceAnswer bytes (CompileAnswer request) (Prints text) → Compiled request bytes before now
+  compiles request narrow (OnTree tree source is) = compiles_tree request narrow tree source is
+  compiles request narrow (NoProgram refusal refused e) = absurd (no_text text _ e)
+
+  inverts_file : (file : File) (rest : List ℕ) → BeginsWith bytes file rest → InvertAnswer file rest (Prints text) → Inverted bytes before now
+  inverts_file file rest begins (invert.AtEnd end e) = record {
+    file = file;
+    begins = subst (BeginsWith bytes file) end begins;
+    printed = subst (Appends before now) (text_is text _ e) took;
+    valid = valid-inverse file begins.valid;
+    twice = ap (λ (gates : List PlainGate). record { level = file.level; wires = file.wires; t_count = file.t_count; gates = gates }) (inverse-twice file.gates);
+    permutes = permutes-file file begins.valid;
+  }
+  inverts_file file rest begins (invert.GoesOn some e) = absurd (no_text text _ e)
+
+  inverts : GatesAnswer bytes InvertAnswer (Prints text) → Inverted bytes before now
+  inverts (OnPrefix file rest begins is) = inverts_file file rest begins is
+  inverts (WrongLine line refused e) = absurd (no_text text _ e)
+  inverts (PastLimit refusal refused e) = absurd (no_text text _ e)
+
+  simulates_lines : (file : File) (rest lines : List ℕ) → BeginsWith bytes file rest → file.level ≢ levels.T → HasLines rest lines → LinesAnswer file lines (Prints text) → Simulated bytes before now
+  simulates_lines file rest lines begins level has (OnStates states are e) = record {
+    file = file;
+    rest = rest;
+    begins = begins;
+    classical = level;
+    lines = lines;
+    has = has;
+    states = states;
+    spelled = are;
+    printed = subst (Appends before now) (text_is text _ e) took;
+    permutes = permutes-file file begins.valid (classical file.level file.gates level begins.valid.fit_level);
+  }
+  simulates_lines file rest lines begins level has (simulate.WrongLine line are e) = absurd (no_text text _ e)
+  simulates_lines file rest lines begins level has (simulate.PastLimit refusal are e) = absurd (no_text text _ e)
+
+  simulates_file : (file : File) (rest : List ℕ) → BeginsWith bytes file rest → SimulateAnswer file rest (Prints text) → Simulated bytes before now
+  simulates_file file rest begins (OfLevelT level e) = absurd (no_text text _ e)
+  simulates_file file rest begins (OnLines level lines has is) = simulates_lines file rest lines begins level has is
+  simulates_file file rest begins (OtherLine level none e) = absurd (no_text text _ e)
+
+  simulates : GatesAnswer bytes SimulateAnswer (Prints text) → Simulated bytes before now
+  simulates (OnPrefix file rest begins is) = simulates_file file rest begins is
+  simulates (WrongLine line refused e) = absurd (no_text text _ e)
+  simulates (PastLimit refusal refused e) = absurd (no_text text _ e)
+
+-- the text that answers a request
+asked_answer : (words : List (List ℕ)) (bytes text : List ℕ) (request : Request) → Asks words request → Answer words bytes (Prints text) → InputAnswer request bytes (Prints text)
+asked_answer words bytes text request asks (OnInput other also few is) = subst (λ (r : Request). InputAnswer r bytes (Prints text)) (one_request words other request also asks) is
+asked_answer words bytes text request asks (TooLong other also many e) = absurd (no_text text _ e)
+asked_answer words bytes text request asks (Usage none e) = absurd (none request asks)
+
+-- a call that ended well gave a text that keeps what all such texts keep
+pub asked_given : (request : Request) (left before now : Option (List ℕ)) (words : List (List ℕ)) (ended : Status) (Promise : List ℕ → Type 0) → ((bytes text : List ℕ) → Appends before now text → InputAnswer request bytes (Prints text) → Promise bytes) →
+    Answered left before now words ended → Asks words request → ended ≡ status.Ok → IfSome left Promise
+asked_given request left before now words ended Promise keeps answered asks ok = if_told left by_gave (told_answer left before now words ended answered)
+  where
+    by_outcome : (bytes : List ℕ) (outcome : Outcome) → Answer words bytes outcome → outcome_status outcome ≡ status.Ok → Appends before now (outcome_text outcome) → Promise bytes
+    by_outcome bytes (Prints text) answer same took = keeps bytes text took (asked_answer words bytes text request asks answer)
+    by_outcome bytes (Refuses why) answer same took = absurd (refusal_not_ok why same)
+
+    by_cut : (bytes : List ℕ) → IsCutShort ended → Promise bytes
+    by_cut bytes (inl memory) = let e = sym ok ∙ memory in cc
+    by_cut bytes (inr (inl read)) = let e = sym ok ∙ read in cc
+    by_cut bytes (inr (inr write)) = let e = sym ok ∙ write in cc
+
+    by_gave : (bytes : List ℕ) → IsCutShort ended ⊎ GaveWhole words bytes before now ended → Promise bytes
+    by_gave bytes (inl cut) = by_cut bytes cut
+    by_gave bytes (inr gave) = by_outcome bytes gave.outcome gave.answer (gave.status ∙ ok) gave.took
+
+pub formatted : (left before now : Option (List ℕ)) (words : List (List ℕ)) (ended : Status) → Answered left before now words ended → Asks words Format → ended ≡ status.Ok → IfSome left (λ bytes. Formatted bytes before now)
+formatted left before now words ended answered asks ok = asked_given Format left before now words ended (λ bytes. Formatted bytes before now) (λ bytes text took. formats bytes text before now took) answered asks ok
+
+pub headline : (left before now : Option (List ℕ)) (words : List (List ℕ)) (ended : Status) → Answered left before now words ended → (request : FileRequest) → Asks words (Compile request) → ended ≡ status.Ok → IfSome left (λ bytes. Compiled request bytes before now)
+headline left before now words ended answered request asks ok = asked_given (Compile request) left before now words ended (λ bytes. Compiled request bytes before now) (λ bytes text took. compiles bytes text before now took request asks.in_range.addr_to) answered asks ok
+
+pub inverted : (left before now : Option (List ℕ)) (words : List (List ℕ)) (ended : Status) → Answered left before now words ended → Asks words Invert → ended ≡ status.Ok → IfSome left (λ bytes. Inverted bytes before now)
+inverted left before now words ended answered asks ok = asked_given Invert left before now words ended (λ bytes. Inverted bytes before now) (λ bytes text took. inverts bytes text before now took) answered asks ok
+
+pub simulated : (left before now : Option (List ℕ)) (words : List (List ℕ)) (ended : Status) → Answered left before now words ended → Asks words Simulate → ended ≡ status.Ok → IfSome left (λ bytes. Simulated bytes before now)
+simulated left before now words ended answered asks ok = asked_given Simulate left before now words ended (λ bytes. Simulated bytes before now) (λ bytes text took. simulates bytes text before now took) answered asks ok

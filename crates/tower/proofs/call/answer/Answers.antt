@@ -1,0 +1,18 @@
+use Rattle.std.proofs.Common.{sym, subst}
+use Rattle.tower.specs.declared.request.Command.{Command}
+use Rattle.tower.specs.Given.{request_of}
+use Rattle.tower.specs.Answer.{InputAnswer}
+use Rattle.tower.specs.Ending.{Did}
+use Rattle.tower.proofs.call.answer.Goals as goal
+
+pub returns-in-Format : goal.returns-in-Format
+returns-in-Format g c = subst (λ (k : Command). Did g.K.Sink.taken g.K.Sink.faults c.args.output.now c.format.new.output c.format.result (InputAnswer (request_of k) c.args.bytes.now)) (sym c.in-Format.is) c.format.ensures
+
+pub returns-in-Compile : goal.returns-in-Compile
+returns-in-Compile g c = subst (λ (k : Command). Did g.K.Sink.taken g.K.Sink.faults c.args.output.now c.compile.new.output c.compile.result (InputAnswer (request_of k) c.args.bytes.now)) (sym c.in-Compile.is) c.compile.ensures
+
+pub returns-in-Simulate : goal.returns-in-Simulate
+returns-in-Simulate g c = subst (λ (k : Command). Did g.K.Sink.taken g.K.Sink.faults c.args.output.now c.simulate.new.output c.simulate.result (InputAnswer (request_of k) c.args.bytes.now)) (sym c.in-Simulate.is) c.simulate.ensures
+
+pub returns-in-Invert : goal.returns-in-Invert
+returns-in-Invert g c = subst (λ (k : Command). Did g.K.Sink.taken g.K.Sink.faults c.args.output.now c.invert.new.output c.invert.result (InputAnswer (request_of k) c.args.bytes.now)) (sym c.in-Invert.is) c.invert.ensures

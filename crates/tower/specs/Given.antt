@@ -1,0 +1,66 @@
+-- What lies between the arguments and the code: the options as the code keeps them, and the request of a command of the code.
+use Rattle.std.specs.Prelude.{◌≡◌, ℕ, ◌≤◌, if◌then◌else◌, List, [], ◌∷◌, ◌++◌, length, drop, get_or, Option, Some, None, option_map, option_to_list}
+use denote.Ref.{Bor}
+use Rattle.std.specs.List.{flat_map}
+use Rattle.std.specs.Str.{bytes_eq}
+use Rattle.tw_types.specs.Types.{AreInRange}
+use Rattle.tower.specs.declared.options.Key.{Key}
+use Rattle.tower.specs.declared.options.Key.TheVariants as key
+use Rattle.tower.specs.declared.request.Options.{Options}
+use Rattle.tower.specs.declared.request.Command.{Command}
+use Rattle.tower.specs.declared.request.Command.TheVariants as command
+use Rattle.tower.specs.Requests.{FileRequest, Request, Format, Compile, Simulate, Invert, Choice, key_text, is_flag, key_place, choice_words, values_of, wanted}
+
+-- the request that a command of the code is
+abbrev pub file_request : Options → FileRequest
+file_request options = record { widths = options.widths; inverse = options.inverse }
+
+abbrev pub request_of : Command → Request
+request_of command.Format = Format
+request_of (command.Compile options) = Compile (file_request options)
+request_of command.Simulate = Simulate
+request_of command.Invert = Invert
+
+-- all keys, by their places
+abbrev pub keys : List Key
+keys = key.Word ∷ key.Addr ∷ key.Entry ∷ key.Inverse ∷ []
+
+-- the first of these keys that is written so
+abbrev pub key_among : List ℕ → List Key → Option Key
+key_among word [] = None
+key_among word (key ∷ rest) = if bytes_eq word (key_text key) then Some key else key_among word rest
+
+-- how many arguments an option with this key takes
+abbrev pub choice_size : Key → ℕ
+choice_size key = if is_flag key then 1 else 2
+
+-- the option with this key and this value is a prefix of the arguments
+abbrev pub IsChoiceAt : List (List ℕ) → Key → List ℕ → Type 0
+IsChoiceAt words key value = (words ≡ choice_words (key, value) ++ drop (choice_size key) words) × (choice_size key ≤ length words)
+
+-- no option is a prefix of the arguments
+abbrev pub IsNoChoiceAt : List (List ℕ) → Type 0
+IsNoChoiceAt words = (choice : Choice) (rest : List (List ℕ)) → ¬ (words ≡ choice_words choice ++ rest)
+
+-- the value that was given to a key, in a table by the keys' places
+abbrev pub value_given : List (Option (Bor (List ℕ))) → Key → Option (Bor (List ℕ))
+value_given values key = get_or values (key_place key) None
+
+-- the same as a list, which is empty or has this value; that of a flag is empty
+abbrev pub given_to : List (Option (Bor (List ℕ))) → Key → List (List ℕ)
+given_to values key = option_to_list (option_map (λ text. if is_flag key then [] else text.now) (value_given values key))
+
+-- options with these values are a prefix of the arguments, and these are the rest
+pub record AreGiven (words rest : List (List ℕ)) (values : List (Option (Bor (List ℕ)))) : Type 0 where
+  pub choices : List Choice
+  pub spelled : words ≡ flat_map choice_words choices ++ rest
+  pub each : (key : Key) → values_of key choices ≡ given_to values key
+
+-- the arguments are no options of which each is given at most once
+abbrev pub AreNotGiven : List (List ℕ) → Type 0
+AreNotGiven words = (choices : List Choice) → words ≡ flat_map choice_words choices → ((key : Key) → length (values_of key choices) ≤ 1) → ⊥
+
+-- the values are those for the request
+pub record AreWanted (values : List (Option (Bor (List ℕ)))) (request : FileRequest) : Type 0 where
+  pub each : (key : Key) → given_to values key ≡ wanted key request
+  pub in_range : AreInRange request.widths

@@ -1,0 +1,101 @@
+-- Requests, and the command-line arguments that ask for them: a command, and its options in any order.
+use Rattle.std.specs.Prelude.{◌≡◌, ℕ, ◌==◌, Bool, true, false, if◌then◌else◌, List, [], ◌∷◌, codes, decimal, refl}
+use Rattle.std.specs.Fmt.{digits}
+use Rattle.std.specs.List.{flat_map}
+use Rattle.std.proofs.Common.{lit≤}
+use Rattle.tw_types.specs.Types.{Widths, AreInRange}
+use Rattle.tower.specs.declared.options.Key.{Key}
+use Rattle.tower.specs.declared.options.Key.TheVariants as key
+
+-- what `compile` is asked for: the widths, and whether the inverse file is wanted
+pub record FileRequest : Type 0 where
+  pub widths : Widths
+  pub inverse : Bool
+
+-- what a call is asked for
+pub data Request : Type 0 where
+  Format : Request
+  Compile : (file : FileRequest) → Request
+  Simulate : Request
+  Invert : Request
+
+-- how the key of an option is written
+abbrev pub key_text : Key → List ℕ
+key_text key.Word = codes "--word"
+key_text key.Addr = codes "--addr"
+key_text key.Entry = codes "--entry"
+key_text key.Inverse = codes "--inverse"
+
+-- whether the key is a whole option; otherwise the next argument is its value
+abbrev pub is_flag : Key → Bool
+is_flag key.Inverse = true
+is_flag other = false
+
+-- the place of the key in a table of all keys
+abbrev pub key_place : Key → ℕ
+key_place key.Word = 0
+key_place key.Addr = 1
+key_place key.Entry = 2
+key_place key.Inverse = 3
+
+-- an option: its key, and its value, which a flag does not have
+abbrev pub Choice : Type 0
+Choice = Key × List ℕ
+
+-- the arguments that an option is written as
+abbrev pub choice_words : Choice → List (List ℕ)
+choice_words choice = key_text choice.0 ∷ (if is_flag choice.0 then [] else choice.1 ∷ [])
+
+-- the values that are given to a key, in order; each time a flag is given it has the empty value
+abbrev pub values_of : Key → List Choice → List (List ℕ)
+values_of key [] = []
+values_of key (choice ∷ choices) =
+    if key_place choice.0 == key_place key then (if is_flag key then [] else choice.1) ∷ values_of key choices else values_of key choices
+
+-- The values that are given to each key, for this request: numbers are decimal without leading zeros, the entry is `main`, and
+-- `--inverse` is given where the inverse file is wanted.
+abbrev pub wanted : Key → FileRequest → List (List ℕ)
+wanted key.Word file = decimal file.widths.word ∷ []
+wanted key.Addr file = decimal file.widths.addr ∷ []
+wanted key.Entry file = codes "main" ∷ []
+wanted key.Inverse file = if file.inverse then [] ∷ [] else []
+
+-- the arguments are `compile` and options in any order, with these values, and the widths are in range
+pub record AsksFile (words : List (List ℕ)) (file : FileRequest) : Type 0 where
+  pub choices : List Choice
+  pub spelled : words ≡ codes "compile" ∷ flat_map choice_words choices
+  pub values : (key : Key) → values_of key choices ≡ wanted key file
+  pub in_range : AreInRange file.widths
+
+-- the arguments ask for this; `format`, `sim` and `invert` have no options
+abbrev pub Asks : List (List ℕ) → Request → Type 0
+Asks words Format = words ≡ codes "format" ∷ []
+Asks words (Compile file) = AsksFile words file
+Asks words Simulate = words ≡ codes "sim" ∷ []
+Asks words Invert = words ≡ codes "invert" ∷ []
+
+-- the arguments ask for nothing that the program does
+abbrev pub IsUsage : List (List ℕ) → Type 0
+IsUsage words = (request : Request) → ¬ Asks words request
+
+-- `compile --inverse --entry main --addr 2 --word 3`
+pub asks_inverse :
+    AsksFile (codes "compile" ∷ codes "--inverse" ∷ codes "--entry" ∷ codes "main" ∷ codes "--addr" ∷ codes "2" ∷ codes "--word" ∷ codes "3" ∷ [])
+    (record { widths = record { word = 3; addr = 2 }; inverse = true })
+unfolding digits
+asks_inverse = record {
+  choices = (key.Inverse, []) ∷ (key.Entry, codes "main") ∷ (key.Addr, codes "2") ∷ (key.Word, codes "3") ∷ [];
+  spelled = refl;
+  values = each;
+  in_range = record { word_from = lit≤ tt; word_to = lit≤ tt; addr_from = lit≤ tt; addr_to = lit≤ tt };
+}
+  where
+    each : (k : Key) → values_of k ((key.Inverse, []) ∷ (key.Entry, codes "main") ∷ (key.Addr, codes "2") ∷ (key.Word, codes "3") ∷ []) ≡ wanted k (record { widths = record { word = 3; addr = 2 }; inverse = true })
+    each key.Word = refl
+    each key.Addr = refl
+    each key.Entry = refl
+    each key.Inverse = refl
+
+-- a key that is given twice has both values, in order
+pub values_of-twice : values_of key.Word ((key.Word, codes "3") ∷ (key.Inverse, codes "8") ∷ (key.Word, codes "5") ∷ []) ≡ codes "3" ∷ codes "5" ∷ []
+values_of-twice = refl

@@ -1,0 +1,82 @@
+//! `compile`: the gate file of a program. Programs of one form are compiled so far.
+ghost use Rattle.std.specs.Prelude.{◌≡◌, ◌≤◌, true, length, IfOk};
+ghost use Rattle.tw_text.specs.declared.limits.TheConstants.{INPUT_LIMIT};
+ghost use Rattle.std.specs.List.{AllByRecursion};
+ghost use Rattle.tw_gate.specs.Gates.{directed};
+ghost use Rattle.tw_gatetext.specs.Text.{HasFewControls};
+ghost use Rattle.tw_gatetext.specs.Files.{plain_file};
+ghost use Rattle.tower.specs.Form.{is_right, function_of};
+ghost use Rattle.tower.specs.Seen.{form_seen};
+ghost use Rattle.tower.specs.Given.{file_request};
+ghost use Rattle.tower.specs.Compile.{file_of, CompileAnswer};
+ghost use Rattle.tower.specs.Sources.{SourceAnswer};
+ghost use Rattle.tower.specs.Ending.{Did};
+
+use crate::ending::Unanswered;
+use crate::first_form::{Form, form_of};
+use crate::request::Options;
+use bumpalo::Bump;
+use std::alloc::{AllocError, Global};
+use tw_frames::layout;
+use tw_gate::{GateList, Level, TOFFOLI_T_COUNT};
+use tw_gatetext::{GateFile, write_gate_file};
+use tw_io::Sink;
+use tw_lower::push_and;
+use tw_parse::parse;
+use tw_text::{Arena, Diagnostic};
+use tw_types::Widths;
+
+/// Inverts a list of gates if the inverse is wanted.
+fn direct(gates: &mut GateList, inverse: bool)
+    ensures { gates.new ≡ directed inverse gates.old }
+{
+    if inverse {
+        tw_gate::invert(gates);
+    }
+}
+
+/// The gate file of a program, or the inverse file.
+fn file_of(
+    alloc: Global,
+    widths: Widths,
+    inverse: bool,
+    form: &Form,
+) -> Result<GateFile, AllocError>
+    requires { is_right (form_seen form.now) ≡ true }
+    ensures defined { IfOk result (λ file. plain_file file ≡ file_of widths inverse (function_of (form_seen form.now))) }
+    ensures few { IfOk result (λ file. AllByRecursion HasFewControls file.gates) }
+{
+    let block = widths.addr;
+    let layout = layout(widths, block, form.parameter_count(), 1, 2);
+    let left = layout.args + form.place(form.left);
+    let right = layout.args + form.place(form.right);
+    let mut gates = GateList::new(alloc);
+    push_and(&mut gates, left, right, layout.out, layout.scratch)?;
+    direct(&mut gates, inverse);
+    Ok(GateFile {
+        level: Level::Mcx,
+        wires: layout.wires,
+        t_count: TOFFOLI_T_COUNT,
+        gates,
+    })
+}
+
+/// Writes the gate file of the program whose source the bytes are, or its inverse: the header lines as one piece, then each line.
+pub fn compile<K: Sink>(
+    alloc: Global,
+    options: Options,
+    bytes: &[u8],
+    output: &mut K,
+) -> Result<(), Unanswered>
+    requires { length bytes.now ≤ INPUT_LIMIT }
+    ensures { Did K.taken K.faults output.old output.new result (SourceAnswer bytes.now (CompileAnswer (file_request options))) }
+{
+    let arena: Arena = Bump::new(alloc);
+    let program = parse(alloc, &arena, bytes)?;
+    let Some(form) = form_of(program) else {
+        return Err(Unanswered::Refused(Diagnostic::NotBuilt));
+    };
+    let file = file_of(alloc, options.widths, options.inverse, &form)?;
+    write_gate_file(output, &file)?;
+    Ok(())
+}

@@ -1,0 +1,105 @@
+//! What the arguments of a call ask for.
+ghost use Rattle.std.specs.Prelude.{◌≡◌, ◌<◌, ◌^◌, ℕ, decimal, codes, slice_get, length, IfSome};
+ghost use Rattle.std.specs.Option.{IfNone};
+ghost use Rattle.std.specs.Str.{bytes_eq};
+ghost use Rattle.tower.specs.Requests.{FileRequest, Asks, AsksFile, IsUsage};
+ghost use Rattle.tower.specs.Given.{file_request, request_of, AreWanted};
+
+use crate::options::{Given, Key, options_of};
+use crate::words::Words;
+use tw_types::Widths;
+
+/// What `compile` is asked for.
+#[derive(Debug, Clone, Copy, PartialEq, Eq)]
+pub struct Options {
+    /// The widths that the program is compiled for.
+    pub widths: Widths,
+    /// Whether the inverse file is wanted.
+    pub inverse: bool,
+}
+
+/// What a call is asked for.
+#[derive(Debug, Clone, Copy, PartialEq, Eq)]
+pub enum Command {
+    /// The printed form of a program.
+    Format,
+    /// The gate file of a program, or the inverse file.
+    Compile(Options),
+    /// What the gates of a file do to lines of bits.
+    Simulate,
+    /// The inverse of a gate file.
+    Invert,
+}
+
+/// The width that a word writes.
+fn width(word: &str) -> Option<u32>
+    ensures some { IfSome result (λ n. word.now ≡ decimal n) }
+    ensures none { IfNone result ((n : ℕ) → n < 2 ^ 32 → ¬ (word.now ≡ decimal n)) }
+{
+    let number = tw_text::whole_decimal(word.as_bytes())?;
+    if number < 1 << 32 {
+        Some(number as u32)
+    } else {
+        None
+    }
+}
+
+fn is_main(word: &str) -> bool
+    ensures { result ≡ bytes_eq word.now (codes "main") }
+{
+    word == "main"
+}
+
+/// What the options of `compile` ask for.
+fn file_options(given: &Given) -> Option<Options>
+    ensures some { IfSome result (λ options. AreWanted given.now.values (file_request options)) }
+    ensures none { IfNone result ((request : FileRequest) → ¬ AreWanted given.now.values request) }
+{
+    let word = width(given.value(Key::Word)?)?;
+    let addr = width(given.value(Key::Addr)?)?;
+    let widths = Widths::new(word, addr)?;
+    if !is_main(given.value(Key::Entry)?) {
+        return None;
+    }
+    Some(Options {
+        widths,
+        inverse: given.value(Key::Inverse).is_some(),
+    })
+}
+
+/// What the arguments after `compile` ask for.
+fn compile_of(words: &Words) -> Option<Command>
+    requires { slice_get words.now 0 ≡ Some (codes "compile") }
+    ensures some { IfSome result (λ command. Asks words.now (request_of command)) }
+    ensures none { IfNone result ((request : FileRequest) → ¬ AsksFile words.now request) }
+{
+    let given = options_of(words)?;
+    let options = file_options(&given)?;
+    Some(Command::Compile(options))
+}
+
+/// A command without options, if no argument follows it.
+fn alone(command: Command, words: &Words) -> Option<Command>
+    requires { 0 < length words.now }
+    ensures some { IfSome result (λ found. (found ≡ command) × (length words.now ≡ 1)) }
+    ensures none { IfNone result (1 < length words.now) }
+{
+    if words.len() < 2 { Some(command) } else { None }
+}
+
+/// What the arguments ask for, if they are a command and its options.
+pub fn command_of(words: &Words) -> Option<Command>
+    ensures some { IfSome result (λ command. Asks words.now (request_of command)) }
+    ensures none { IfNone result (IsUsage words.now) }
+{
+    if words.is_empty() {
+        return None;
+    }
+    match words.word(0) {
+        "compile" => compile_of(words),
+        "format" => alone(Command::Format, words),
+        "sim" => alone(Command::Simulate, words),
+        "invert" => alone(Command::Invert, words),
+        _ => None,
+    }
+}
