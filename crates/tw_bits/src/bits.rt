@@ -10,7 +10,7 @@ use std::marker::Model;
 const WORD: usize = 64;
 
 /// A list of bits of a fixed length, with places from 0. Bit `i` is bit `i % 64` of word `i / 64`, where bit 0 of a
-/// word is its least. Behind the words that hold bits stands at least one more, so that two words can be read at each place.
+/// word is its least. At least one more word follows those that hold bits, so that two words can be read at each place.
 #[derive(Drop)]
 pub struct Bits {
     words: Vec<u64>,

@@ -1,4 +1,4 @@
--- A gate line as letters and the numbers behind them.
+-- A gate line as letters, followed by numbers.
 use Rattle.std.specs.Prelude.{◌≡◌, ℕ, List, [], ◌∷◌, ◌++◌, length, codes, refl}
 use Rattle.tw_gate.specs.Gates.{PlainGate, X, H, T, Tdg}
 

@@ -1,4 +1,4 @@
--- Which line may stand where in a gate file.
+-- Which line may come where in a gate file.
 use Rattle.std.proofs.Common.{arith}
 use Rattle.std.specs.Prelude.{◌≡◌, ℕ, ◌+◌, ◌<◌, ◌≤◌, List, [], ◌∷◌, ◌++◌, length, codes, decimal, refl}
 use Rattle.std.specs.Fmt.{digits}
@@ -17,8 +17,8 @@ pub record Head : Type 0 where
   pub gates : ℕ
   pub t_count : List ℕ
 
--- How far a file has come, by the line that it has next and by what the lines so far have told. Behind the header, a gate line
--- is next or, behind the last one, the line `end`; behind that line the file is whole.
+-- How far a file has come: the line that comes next, and the values of the lines so far. After the header comes a gate line or,
+-- after the last one, the line `end`; then the file is whole.
 pub data Progress : Type 0 where
   AtVersion : Progress
   AtLevel : Progress
@@ -28,13 +28,13 @@ pub data Progress : Type 0 where
   InBody : (head : Head) (gates : List PlainGate) → Progress
   Whole : (head : Head) (gates : List PlainGate) → Progress
 
--- a line behind the header, and how far the file has come behind it: a gate that fits the level and the wires, or the last line
+-- a line after the header, and how far the file has come after it: a gate that fits the level and the wires, or the last line
 pub data IsBodyLine (head : Head) (gates : List PlainGate) (text : List ℕ) (next : Progress) : Type 0 where
   OfGate : (gate : PlainGate) → length gates < head.gates → FitsLevel head.level gate → FitsWires head.wires gate
       → text ≡ line gate → next ≡ InBody head (gates ++ gate ∷ []) → IsBodyLine head gates text next
   Last : length gates ≡ head.gates → text ≡ last_line → next ≡ Whole head gates → IsBodyLine head gates text next
 
--- the text is a right line of a file that has come so far, and the file has come to `next` behind it
+-- the text is a right line of a file that has come so far, and the file has come to `next` after it
 abbrev pub IsRight : Progress → List ℕ → Progress → Type 0
 IsRight AtVersion text next = (text ≡ codes "tower-gates 1\n") × (next ≡ AtLevel)
 IsRight AtLevel text next = (level : Level) × (text ≡ codes "level " ++ (level_word level ++ codes "\n")) × (next ≡ AtWires level)
@@ -48,7 +48,7 @@ IsRight (AtTCount level wires gates) text next =
 IsRight (InBody head gates) text next = IsBodyLine head gates text next
 IsRight (Whole head gates) text next = ⊥
 
--- a right line stands at the front of the bytes of a file that has come so far; the file has come to `next` behind it, and
+-- the bytes of a file that has come so far begin with a right line; the file has come to `next` after it, and
 -- this rest follows
 pub record StepsTo (progress : Progress) (bytes : List ℕ) (next : Progress) (rest : List ℕ) : Type 0 where
   pub text : List ℕ

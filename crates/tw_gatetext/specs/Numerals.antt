@@ -4,7 +4,7 @@ use Rattle.std.specs.Prelude.{◌≡◌, ◌≢◌, ℕ, ◌<◌, ◌-◌, ◌^�
 use Rattle.std.specs.Fmt.{digits}
 use Rattle.tw_text.specs.Digits.{digit_run}
 
--- a digit stands first, and it is not 0
+-- the first character is a digit other than 0
 abbrev pub LeadsWithoutZero : List ℕ → Type 0
 LeadsWithoutZero [] = ⊥
 LeadsWithoutZero (digit ∷ digits) = digit ≢ 48
@@ -14,7 +14,7 @@ pub record IsLarger (run : List ℕ) : Type 0 where
   pub leads : LeadsWithoutZero run
   pub no_word : (n : ℕ) → n < 2 ^ 64 → run ≢ decimal n
 
--- The number that the digits at the front of a text write, without leading zero; the greatest one of 64 bits stands for all
+-- The number that the digits at the start of a text write, without leading zero; the greatest one of 64 bits represents all
 -- that are larger.
 pub data Shows (text : List ℕ) (number : ℕ) : Type 0 where
   Word : number < 2 ^ 64 → digit_run text ≡ decimal number → Shows text number
@@ -30,6 +30,6 @@ pub Shows-front : Shows (codes "1048577 junk") 1048577
 unfolding digits
 Shows-front = Word (omega arith) refl
 
--- a leading zero stands before a further digit
+-- a leading zero is followed by a digit
 pub LeadsWithoutZero-zero : LeadsWithoutZero (codes "07") → ⊥
 LeadsWithoutZero-zero leads = leads refl

@@ -1,4 +1,4 @@
--- What the functions of the reader give: between the lines that may stand in a file and the code.
+-- What the functions of the reader return, by the lines that may come in a file.
 use Rattle.std.specs.Prelude.{◌≡◌, ◌≢◌, ℕ, ◌<◌, ◌≤◌, ◌^◌, List, ◌++◌, length, codes}
 use Rattle.std.specs.List.{AllByRecursion}
 use Rattle.tw_gatetext.specs.declared.gate_words.TheConstants.{MOST_NUMBERS}

@@ -17,7 +17,7 @@ pub record TookLines {K : Type 0} (taken : K → Option (List ℕ)) (old new : M
   pub same_sink : new.ghost_name ≡ old.ghost_name
   pub whole : Appends (taken old.now) (taken new.now) (lines gates)
 
--- the sink took a front of the lines of these gates, and is the same that was lent
+-- the sink took a prefix of the lines of these gates, and is the same that was lent
 pub record BrokeLines {K : Type 0} (taken : K → Option (List ℕ)) (old new : MutBor K) (gates : List PlainGate) : Type 0 where
   pub same_sink : new.ghost_name ≡ old.ghost_name
   pub front : AppendsPrefix (taken old.now) (taken new.now) (lines gates)

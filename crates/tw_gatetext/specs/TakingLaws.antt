@@ -22,14 +22,14 @@ module _ {K : Type 0} (taken : K → Option (List ℕ)) where
     whole = rw (lines-append xs ys) (appends_both (taken a.now) (taken b.now) (taken c.now) (lines xs) (lines ys) first.whole second.whole);
   }
 
-  -- the lines of xs, then a front of those of ys, are a front of those of both
+  -- the lines of xs, then a prefix of those of ys, are a prefix of those of both
   pub lines_later : (a b c : MutBor K) (xs ys : List PlainGate) → TookLines taken a b xs → BrokeLines taken b c ys → BrokeLines taken a c (xs ++ ys)
   lines_later a b c xs ys first second = record {
     same_sink = second.same_sink ∙ first.same_sink;
     front = rw (lines-append xs ys) (appends_prefix_then (taken a.now) (taken b.now) (taken c.now) (lines xs) (lines ys) first.whole second.front);
   }
 
-  -- a front of the lines of xs is a front of those of a longer list
+  -- a prefix of the lines of xs is a prefix of those of a longer list
   pub lines_longer : (a b : MutBor K) (xs ys : List PlainGate) → BrokeLines taken a b xs → BrokeLines taken a b (xs ++ ys)
   lines_longer a b xs ys first = record {
     same_sink = first.same_sink;

@@ -26,7 +26,7 @@ x_words (suc zero) = codes "cx"
 x_words (suc (suc zero)) = codes "ccx"
 x_words controls = codes "mcx " ++ decimal controls
 
--- numbers, each behind a space
+-- numbers, each after a space
 abbrev pub spaced : List ℕ → List ℕ
 spaced [] = []
 spaced (n ∷ ns) = codes " " ++ (decimal n ++ spaced ns)

@@ -125,7 +125,7 @@ fn last_line(bytes: &[u8]) -> Option<&[u8]>
     after(bytes, b"end\n")
 }
 
-/// The gate file at the front of the bytes, and what follows it.
+/// The gate file at the start of the bytes, and what follows it.
 fn file_at(alloc: Global, bytes: &[u8]) -> Result<(GateFile, &[u8]), GateFault>
     ensures file { IfOk result (λ read. BeginsWith bytes.now (plain_file read.0) read.1.now) }
     ensures refused { IfErr result (λ why. (why ≡ fault.Memory) ⊎ IsRefusedText bytes.now why) }
@@ -149,7 +149,7 @@ fn file_at(alloc: Global, bytes: &[u8]) -> Result<(GateFile, &[u8]), GateFault>
     Ok((file, rest))
 }
 
-/// Reads the gate file at the front of the bytes: the file, and the number of bytes that it takes.
+/// Reads the gate file at the start of the bytes: the file, and the number of bytes that it takes.
 ///
 /// The errors: the first line that is wrong in its place, or is missing; a limit that the number of wires, the number of gates
 /// or, at level mcx, the number of controls passes; the line of the T-count, once all lines are read, if it is not that of

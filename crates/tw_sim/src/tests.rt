@@ -40,7 +40,7 @@ fn other_gates(alloc: Global) -> Result<GateList, LinesFault>
     Ok(gates)
 }
 
-/// A line so many times, and another text behind.
+/// A line so many times, followed by another text.
 fn repeated(alloc: Global, line: &[u8], times: usize, end: &[u8]) -> Result<Vec<u8>, LinesFault> {
     let mut text = Vec::new(alloc);
     for _ in 0..times {

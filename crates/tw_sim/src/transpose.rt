@@ -21,7 +21,7 @@ fn load_lane(place: usize, digits: &[u8], words: &mut [u64])
     }
 }
 
-/// Loads the line at the front of a text into a lane, which is 0. Gives the text behind it.
+/// Loads the line at the start of a text into a lane, which is 0. Returns the text after it.
 fn load_line<'t>(place: usize, text: &'t [u8], words: &mut [u64]) -> &'t [u8]
     requires place { place < 64 }
     requires line { (bits : List Bool) × (behind : List ℕ) × (length bits ≡ length words.old) × (text.now ≡ bit_line bits ++ behind) }
@@ -36,7 +36,7 @@ fn load_line<'t>(place: usize, text: &'t [u8], words: &mut [u64]) -> &'t [u8]
 }
 
 /// Loads right lines into the lanes of the words, line `i` into lane `i`: all lines, or the first 64. Gives how many those are,
-/// and the text behind them. What the words held is lost.
+/// and the text after them. What the words held is lost.
 pub fn load<'t>(text: &'t [u8], words: &mut [u64]) -> (usize, &'t [u8])
     requires { (states : List (List Bool)) × AreLinesOf (length words.old) text.now states }
     ensures few { result.0 ≤ 64 }
