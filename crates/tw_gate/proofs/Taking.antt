@@ -1,5 +1,5 @@
 -- How calls that give gates to one taker join, by the taker's laws.
-use Rattle.std.proofs.Common.{ℕ, List, [], ◌++◌, Result, Ok, Err, arith}
+use Rattle.std.proofs.Common.{◌∙◌, refl, ℕ, List, [], ◌++◌, Result, Ok, Err, arith}
 use Rattle.tw_gate.specs.declared.out.Stopped.{Stopped}
 use Rattle.tw_gate.specs.Gates.{PlainGate}
 use Rattle.tw_gate.specs.Taking.{Gave}
@@ -7,7 +7,7 @@ use Rattle.tw_gate.specs.Taking.{Gave}
 module _ {O : Type 0} {took broke : O → O → List PlainGate → Type 0} {faults : O → ℕ} where
   -- nothing given is the empty list taken
   pub gave_none : ((a : O) → took a a []) → (a : O) → Gave took broke faults a a (Ok tt) []
-  gave_none none a = record { whole = none a; broken = tt; cause = tt; steady = omega arith }
+  gave_none none a = record { whole = none a; broken = tt; cause = tt; steady = refl }
 
   -- xs was taken; then whatever became of ys became of both
   pub gave_then : ((a b c : O) (xs ys : List PlainGate) → took a b xs → took b c ys → took a c (xs ++ ys)) → ((a b c : O) (xs ys : List PlainGate) → took a b xs → broke b c ys → broke a c (xs ++ ys))
@@ -16,16 +16,16 @@ module _ {O : Type 0} {took broke : O → O → List PlainGate → Type 0} {faul
     whole = both _ _ _ _ _ first.whole second.whole;
     broken = tt;
     cause = tt;
-    steady = omega (arith, first.steady, second.steady);
+    steady = second.steady ∙ first.steady;
   }
   gave_then both later {result = Err e} first second = record {
     whole = tt;
     broken = later _ _ _ _ _ first.whole second.broken;
     cause = omega (arith, first.steady, second.cause);
-    steady = omega (arith, first.steady, second.steady);
+    steady = tt;
   }
 
   -- what broke in xs broke in any longer list
   pub gave_front : ((a b : O) (xs ys : List PlainGate) → broke a b xs → broke a b (xs ++ ys))
       → {a b : O} {stop : Stopped} {xs : List PlainGate} (ys : List PlainGate) → Gave took broke faults a b (Err stop) xs → Gave took broke faults a b (Err stop) (xs ++ ys)
-  gave_front longer ys first = record { whole = tt; broken = longer _ _ _ ys first.broken; cause = first.cause; steady = first.steady }
+  gave_front longer ys first = record { whole = tt; broken = longer _ _ _ ys first.broken; cause = first.cause; steady = tt }

@@ -1,15 +1,16 @@
 -- What a call that gives gates to a taker did, and what a list of gates took.
-use Rattle.std.specs.Prelude.{◌≡◌, ℕ, ◌≤◌, List, [], ◌∷◌, ◌++◌, Result, OnOk, OnErr, refl}
+use Rattle.std.specs.Prelude.{◌≡◌, ℕ, List, [], ◌∷◌, ◌++◌, Result, OnOk, OnErr, refl}
 use Rattle.tw_io.specs.Devices.{Rose}
 use Rattle.tw_gate.specs.declared.out.Stopped.{Stopped}
 use Rattle.tw_gate.specs.Gates.{PlainGate, T, H}
 
--- what a call that gives gates to a taker did: Ok took them all; Stopped broke in them, and the taker's fault counter rose
+-- what a call that gives gates to a taker did: Ok took them all and keeps the taker's fault counter; Stopped broke in them, and the
+-- counter rose
 pub record Gave {O : Type 0} (took broke : O → O → List PlainGate → Type 0) (faults : O → ℕ) (old new : O) (result : Result (Unit {0}) Stopped) (gates : List PlainGate) : Type 0 where
   pub whole : OnOk result (took old new gates)
   pub broken : OnErr result (broke old new gates)
   pub cause : OnErr result (Rose (faults old) (faults new))
-  pub steady : faults old ≤ faults new
+  pub steady : OnOk result (faults new ≡ faults old)
 
 -- a list took these gates: they follow its own
 abbrev pub Grew : List PlainGate → List PlainGate → List PlainGate → Type 0

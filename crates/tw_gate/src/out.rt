@@ -26,7 +26,7 @@ pub trait GateOut {
 
     /// Takes a gate that fits.
     ///
-    /// On Ok it took the gate. If it stopped, it broke in the gate, and its fault counter rose.
+    /// On Ok it took the gate, and its fault counter stays. If it stopped, it broke in the gate, and the counter rose.
     fn put(&mut self, gate: &Gate) -> Result<(), Stopped>
         requires { fits self.old (plain gate.now) }
         ensures gave { Gave took broke faults self.old self.new result (plain gate.now ∷ []) };
