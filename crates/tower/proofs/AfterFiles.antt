@@ -20,7 +20,7 @@ no_more : (front rest : List ℕ) → front ≡ front ++ rest → rest ≡ []
 no_more [] rest e = sym e
 no_more (c ∷ front) rest e = no_more front rest (cc)
 
--- no `%%` stands there, nor is it the end
+-- bytes that are not empty and do not begin with `%%` do not have lines of bits
 pub no_mark : (bytes : List ℕ) (result : Option (Bor (List ℕ))) → (length bytes == 0) ≡ false → after (codes "%%") bytes ≡ None → IfNone result ((lines : List ℕ) → ¬ HasLines bytes lines)
 no_mark bytes (Some found) more none = tt
 no_mark bytes None more none = by_lines
@@ -30,18 +30,18 @@ no_mark bytes None more none = by_lines
     by_lines lines (AtMark e f) = none_other [] (sym none ∙ ap (after (codes "%%")) e ∙ after-append (codes "%%") [])
     by_lines lines (AfterMark e) = none_other (10 ∷ lines) (sym none ∙ ap (after (codes "%%")) e ∙ after-append (codes "%%") (10 ∷ lines))
 
--- `%%` ends the bytes
+-- `%%` alone has the empty text as its lines
 pub mark_at_end : (bytes rest : List ℕ) → after (codes "%%") bytes ≡ Some rest → (length rest == 0) ≡ true → HasLines bytes rest
 mark_at_end bytes rest found end =
     AtMark (append-after (codes "%%") bytes rest found ∙ ap (λ (b : List ℕ). codes "%%" ++ b) (empty rest end)) (empty rest end)
 
--- lines stand rest a line `%%`
+-- lines follow a line `%%`
 pub lines_after_mark : (bytes rest : List ℕ) (result : Option (Bor (List ℕ))) → after (codes "%%") bytes ≡ Some rest → option_copied result ≡ after (codes "\n") rest → IfSome result (λ lines. HasLines bytes lines.now)
 lines_after_mark bytes rest None found line = tt
 lines_after_mark bytes rest (Some lines) found line =
     AfterMark (append-after (codes "%%") bytes rest found ∙ ap (λ (b : List ℕ). codes "%%" ++ b) (append-after (codes "\n") rest lines.now (sym line)))
 
--- the line of a `%%` goes on
+-- `%%` with more on its line does not have lines of bits
 pub longer_line : (bytes rest : List ℕ) (result : Option (Bor (List ℕ))) → (length bytes == 0) ≡ false → after (codes "%%") bytes ≡ Some rest → (length rest == 0) ≡ false → option_copied result ≡ after (codes "\n") rest →
     IfNone result ((lines : List ℕ) → ¬ HasLines bytes lines)
 longer_line bytes rest (Some lines) more found on line = tt
@@ -58,6 +58,6 @@ longer_line bytes rest None more found on line = by_lines
     by_lines lines (AtMark e f) = some rest on (no_more (codes "%%") rest (sym e ∙ spelled))
     by_lines lines (AfterMark e) = none_other lines (line ∙ ap (after (codes "\n")) (newline lines (sym e ∙ spelled)) ∙ after-append (codes "\n") lines)
 
--- bytes go on rest a file that they are longer than
+-- bytes that are longer than a file continue after it
 pub goes_on : (bytes : List ℕ) (size : ℕ) → size < length bytes → drop size bytes ≢ []
 goes_on bytes size more e = omega (arith, more, ap length e, length-drop size bytes)

@@ -1,4 +1,4 @@
--- Options and the arguments that they are written as: arguments are options in one way only.
+-- Options and the arguments that they are written as: arguments are options in at most one way.
 use Rattle.std.proofs.Common.{◌≡◌, ◌∙◌, ap, sym, subst, ℕ, zero, suc, ◌+◌, ◌<◌, ◌≤◌, ◌==◌, Bool, true, false, cond, if◌then◌else◌, List, [], ◌∷◌, ◌++◌, length, drop, Option, Some, None, option_map, option_to_list, slice_get, set, ◌≢◌, get_or-set_same, get_or-set_other, arith, append_assoc, append-nil, length-append, refl}
 use denote.Ref.{Bor}
 use Rattle.std.specs.Str.{bytes_eq}
@@ -59,7 +59,7 @@ nil_cons x xs e = cc
 abbrev value : Key → List ℕ → List ℕ
 value k v = if is_flag k then [] else v
 
--- the values of options whose first is this
+-- the values of options after a first one
 abbrev put : (same : Bool) (v : List ℕ) (vs : List (List ℕ)) → List (List ℕ)
 put same v vs = if same then v ∷ vs else vs
 
@@ -72,13 +72,13 @@ values_of-append k [] ys = refl
 values_of-append k (x ∷ xs) ys =
     ap (put (key_place x.0 == key_place k) (value k x.1)) (values_of-append k xs ys) ∙ put-append (key_place x.0 == key_place k) (value k x.1) (values_of k xs) (values_of k ys)
 
--- arguments that begin with these options go on with further ones
+-- arguments that begin with these options continue with further ones
 pub record Continues (all front : List Choice) (rest : List (List ℕ)) : Type 0 where
   pub more : List Choice
   pub spelled : rest ≡ flat_map choice_words more
   pub each : (k : Key) → values_of k all ≡ values_of k front ++ values_of k more
 
--- one option off the front of both
+-- two lists of arguments that begin with an option, without it
 record SameFirst (k other : Key) (v w : List ℕ) (rest more : List (List ℕ)) : Type 0 where
   same_key : k ≡ other
   same_value : value k v ≡ value k w
@@ -110,7 +110,7 @@ continues ((k, v) ∷ all) ((other, w) ∷ front) rest e =
         rw (is, sym same.same_key, is, here, further.each j) refl
     by_test j same further false is = rw (is, sym same.same_key, is, further.each j) refl
 
--- the option at the front of arguments
+-- the option at the start of arguments
 
 pub drop_at : {A : Type 0} → (xs : List A) (i : ℕ) (x : A) → slice_get xs i ≡ Some x → drop i xs ≡ x ∷ drop (suc i) xs
 drop_at [] i x e = cc
@@ -139,7 +139,7 @@ no_value_here words word k e same flag choice rest spelled =
 
 -- options of which each is given at most once, read from the left
 
--- the options that were read, and one more
+-- the options that were read, followed by one more
 pub one_more : (words rest more : List (List ℕ)) (values : List (Option (Bor (List ℕ)))) (k : Key) (v : Bor (List ℕ)) → key_place k < length values → AreGiven words rest values → value_given values k ≡ None →
     rest ≡ choice_words (k, v.now) ++ more → AreGiven words more (set values (key_place k) (Some v))
 one_more words rest more values k v within given free e = record {
@@ -159,7 +159,7 @@ one_more words rest more values k v within given free e = record {
         let apart : key_place j ≢ key_place k = λ e. not_from_Decides _ (Decides-eqb (key_place k) (key_place j)) is (sym e) in
         rw (is, get_or-set_other values (key_place k) (key_place j) (Some v) None apart) (append-nil _ ∙ given.each j)
 
--- where no option follows, the arguments are no options
+-- if no option follows, the arguments are no options
 pub not_given : (words rest : List (List ℕ)) (values : List (Option (Bor (List ℕ)))) → AreGiven words rest values → rest ≢ [] → IsNoChoiceAt rest → AreNotGiven words
 not_given words rest values given some none choices e once = by_more (continues choices given.choices rest (sym e ∙ given.spelled))
   where
@@ -170,7 +170,7 @@ not_given words rest values given some none choices e once = by_more (continues 
         by_list [] spelled = some spelled
         by_list (choice ∷ more) spelled = none choice (flat_map choice_words more) spelled
 
--- where a key follows that was given before, they are none of which each is given at most once
+-- if a key follows that was given before, the arguments are not options of which each is given at most once
 pub given_twice : (words rest more : List (List ℕ)) (values : List (Option (Bor (List ℕ)))) (k : Key) (v : List ℕ) → AreGiven words rest values → value_given values k ≢ None → rest ≡ choice_words (k, v) ++ more → AreNotGiven words
 given_twice words rest more values k v given before e choices all once =
     let front = continues choices given.choices rest (sym all ∙ given.spelled) in

@@ -1,4 +1,4 @@
--- How a call ends that wrote its answer, or could not.
+-- The end of a call after its command.
 use Rattle.std.proofs.Common.{◌≡◌, ◌≢◌, ◌∙◌, ap, sym, subst, ℕ, ◌≤◌, inl, inr, Bool, true, false, List, [], ◌++◌, length, Option, Some, None, IfSome, Result, Ok, Err, arith, append-nil, length-append, refl}
 use Rattle.tw_io.specs.Devices.{Rose, Takes, TakesBetween, TakesExactly, IsAtEnd, Appends, AppendsPrefix}
 use Rattle.tw_io.proofs.Devices.{appends_nothing}
@@ -34,7 +34,7 @@ outcome-is_answer (Prints text) = refl
 outcome-is_answer (Refuses why) = refusal-is_answer why
 
 module _ {K : Type 0} (taken : K → Option (List ℕ)) (faults : K → ℕ) where
-  -- the three ways in which a call ends that has read its input
+  -- the three ways to end for a call that has read its input
   pub data Closes (old new : K) (ended : Status) (IsAnswer : Outcome → Type 0) : Type 0 where
     Whole : (outcome : Outcome) → IsAnswer outcome → ended ≡ outcome_status outcome → Appends (taken old) (taken new) (outcome_text outcome) → faults new ≡ faults old → Closes old new ended IsAnswer
     Broken : (outcome : Outcome) → IsAnswer outcome → ended ≡ status.WriteFault → AppendsPrefix (taken old) (taken new) (outcome_text outcome) → Rose (faults old) (faults new) → Closes old new ended IsAnswer
@@ -44,7 +44,7 @@ module _ {K : Type 0} (taken : K → Option (List ℕ)) (faults : K → ℕ) whe
   closes_refused old new ended IsAnswer why answer (inl whole) = Whole (Refuses why) answer whole.status whole.took whole.steady
   closes_refused old new ended IsAnswer why answer (inr broken) = Broken (Refuses why) answer broken.status broken.took broken.cause
 
-  -- what the command did, and then how the call finished
+  -- what the command did, then how the call finished
   pub closes : (old between new : K) (did : Result (Unit {0}) Unanswered) (ended : Status) (IsAnswer : Outcome → Type 0) → Did taken faults old between did IsAnswer → Finished taken faults between new did ended → Closes old new ended IsAnswer
   closes old between new (Ok done) ended IsAnswer printed finished =
       Whole (Prints printed.text) printed.answer finished.0 (rw (finished.1) printed.took) (ap faults finished.1 ∙ printed.steady)
@@ -70,26 +70,26 @@ module _ {K : Type 0} (taken : K → Option (List ℕ)) (faults : K → ℕ) whe
   not_answer : (ended other : Status) → is_answer ended ≡ true → is_answer other ≡ false → ended ≡ other → ⊥
   not_answer ended other is isnt e = let same = sym is ∙ (ap is_answer e ∙ isnt) in cc
 
-  -- the sink's error counter rose where the call ended with a fault of it, and nowhere else
+  -- the sink's error counter rose if the call ended with a fault of the sink, and is unchanged otherwise
   pub closes_sink : (old new : K) (ended : Status) (IsAnswer : Outcome → Type 0) → Closes old new ended IsAnswer → IsKept status.WriteFault (faults old) (faults new) ended
   closes_sink old new ended IsAnswer (Whole outcome answer e took steady) =
       record { rose = λ write. absurd (not_answer _ status.WriteFault (outcome-is_answer outcome) refl (sym e ∙ write)); kept = λ other. steady }
   closes_sink old new ended IsAnswer (Broken outcome answer e took cause) = record { rose = λ write. cause; kept = λ other. absurd (other e) }
   closes_sink old new ended IsAnswer (Unwritten e same) = record { rose = λ write. let f = sym e ∙ write in cc; kept = λ other. ap faults same }
 
-  -- no call that has read its input ends with a fault of the source
+  -- a call that has read its input does not end with a fault of the source
   pub closes_source : (old new : K) (ended : Status) (IsAnswer : Outcome → Type 0) → Closes old new ended IsAnswer → ended ≢ status.ReadFault
   closes_source old new ended IsAnswer (Whole outcome answer e took steady) read = not_answer _ status.ReadFault (outcome-is_answer outcome) refl (sym e ∙ read)
   closes_source old new ended IsAnswer (Broken outcome answer e took cause) read = let f = sym e ∙ read in cc
   closes_source old new ended IsAnswer (Unwritten e same) read = let f = sym e ∙ read in cc
 
--- the counter of a device that did not fail
+-- the error counter of a device that did not fail
 pub kept_counter : (fault ended : Status) (before now : ℕ) → ended ≢ fault → now ≡ before → IsKept fault before now ended
 kept_counter fault ended before now other same = record { rose = λ is. absurd (other is); kept = λ is. same }
 
 -- the bytes of the source
 
--- some bytes, which are those of the source where it tells them
+-- some bytes: those of the source, if it reports them
 pub record Input (left : Option (List ℕ)) : Type 0 where
   pub bytes : List ℕ
   pub told : IfSome left (λ all. all ≡ bytes)
@@ -98,14 +98,14 @@ pub some_input : (left : Option (List ℕ)) → Input left
 some_input None = record { bytes = []; told = tt }
 some_input (Some all) = record { bytes = all; told = refl }
 
--- a source that was read to its end
+-- the bytes of a source that was read to its end
 pub whole_input : (left now : Option (List ℕ)) (bytes : List ℕ) → Takes left now bytes → IsAtEnd now → IfSome left (λ all. all ≡ bytes)
 whole_input None None bytes took end = tt
 whole_input (Some all) (Some rest) bytes took end = took ∙ ap (λ r. bytes ++ r) end ∙ append-nil bytes
 whole_input None (Some rest) bytes took end = tt
 whole_input (Some all) None bytes took end = absurd took
 
--- a source of which this many bytes were taken has as many
+-- a source that gave this number of bytes has at least as many
 pub long_input : (count : ℕ) (left now : Option (List ℕ)) → TakesExactly left now count → (input : Input left) × (count ≤ length input.bytes)
 long_input count left now took = by_source left now took.taken
   where

@@ -21,12 +21,12 @@ use Rattle.tower.specs.Requests.{FileRequest}
 use Rattle.tower.specs.Compile.{file_of, IsCompiled}
 use Rattle.tower.proofs.Conjunctions.{t_count-directed, conjunction, booleans, few_parameters}
 
--- both directions are the same gates: loads, a flip, and the loads undone in reverse order
+-- the gates are the same in both directions: loads, a flip, and the loads uncomputed
 directed-conjunction : (widths : Widths) {function : Function} {left right : List ℕ} (inverse : Bool) → IsConjunction function left right → directed inverse (function_gates widths [] function) ≡ function_gates widths [] function
 directed-conjunction widths true is = inverse-conjunction widths [] is
 directed-conjunction widths false is = refl
 
--- the five gates are valid where the operands lie below the result, and the scratch wires behind it
+-- the five gates are valid if the operands lie below the result, and the scratch wires after it
 valid_gates : (left right result scratch wires : ℕ) → left < result → right < result → scratch ≡ result + 1 → wires ≡ result + 3 → wires ≤ 2053 →
     IsValid (record { level = levels.Mcx; wires = wires; t_count = t_count (and_gates left right result scratch); gates = and_gates left right result scratch })
 valid_gates left right result scratch wires left_below right_below behind all few =
@@ -71,7 +71,7 @@ compiled request {function} is booleans few narrow =
       t_count = t_count-directed request.inverse _ ∙ t_count-function_gates request.widths [] is;
     }
 
--- and can be written
+-- and it can be written
 pub few-file : (widths : Widths) (inverse : Bool) (form : Form) → is_right form ≡ true → widths.addr ≤ 8 → AllByRecursion HasFewControls (file_of widths inverse (function_of form)).gates
 few-file widths inverse form is narrow =
     let function = function_of form in

@@ -23,7 +23,7 @@ use Rattle.tower.specs.Form.{Form, is_among, parameters_of, are_different, is_ri
 use Rattle.tower.specs.Compile.{file_of}
 use Rattle.tower.proofs.Bools.{and_parts}
 
--- what the test of a form says
+-- what the test of a form decides
 pub record Rightness (form : Form) : Type 0 where
   pub fresh : not (is_among form.result (parameters_of form.first form.second)) ≡ true
   pub different : are_different (parameters_of form.first form.second) ≡ true
@@ -43,7 +43,7 @@ rightness form is =
       right_known = operands.1;
     }
 
--- a name that is among these is one of them
+-- a name that is among these equals one of them
 known : (name : Name) (names : List Name) → is_among name names ≡ true → Contains (map (λ parameter. parameter.name) (map boolean names)) name
 known name [] is = cc
 known name (other ∷ names) is = by_test (bytes_eq name other) refl is (known name names)
@@ -53,7 +53,7 @@ known name (other ∷ names) is = by_test (bytes_eq name other) refl is (known n
     by_test true e h later = (0, omega arith, sym ((bytes_eq-Decides name other).0 e))
     by_test false e h later = let found = later h in (suc found.0, omega arith, found.2)
 
--- a name that is not among these is none of them
+-- a name that is not among these differs from each of them
 pub fresh_from : (name : Name) (names : List Name) → not (is_among name names) ≡ true → AllByRecursion (λ parameter. parameter.name ≢ name) (map boolean names)
 fresh_from name [] is = tt
 fresh_from name (other ∷ names) is = by_test (bytes_eq name other) refl is (fresh_from name names)
@@ -95,7 +95,7 @@ same_name name other is = by_test (bytes_eq name other) refl is
 abbrev pub place : Name → Name → ℕ
 place first name = if bytes_eq first name then 0 else 1
 
--- a parameter lies at its place behind the first wire of the parameters
+-- a parameter lies at its place after the first wire of the parameters
 wire_from-place : (widths : Widths) (from : ℕ) (first : Name) (second : Option Name) (result name : Name) → is_among name (parameters_of first second) ≡ true →
     wire_from widths from (map boolean (parameters_of first second) ++ boolean result ∷ []) name ≡ from + place first name
 wire_from-place widths from first None result name is = rw (same_name name first is) (omega arith)
@@ -107,7 +107,7 @@ wire_from-place widths from first (Some second) result name is = by_test (bytes_
     by_test true false e f h = let is = (bytes_eq-Decides first name).1 (sym ((bytes_eq-Decides name first).0 e)) in cc
     by_test false false e f h = rw (same_name name second h) refl
 
--- a direction keeps the T-count
+-- the direction does not change the T-count
 pub t_count-directed : (inverse : Bool) (gates : List PlainGate) → t_count (directed inverse gates) ≡ t_count gates
 t_count-directed true gates = t_count-inverse gates
 t_count-directed false gates = refl
@@ -119,7 +119,7 @@ same_file wires wires' count count' gates gates' e f g = cc
 pub same_gates : (left left' right right' result result' scratch scratch' : ℕ) → left ≡ left' → right ≡ right' → result ≡ result' → scratch ≡ scratch' → and_gates left right result scratch ≡ and_gates left' right' result' scratch'
 same_gates left left' right right' result result' scratch scratch' e f g h = cc
 
--- the file of the code is the defined one
+-- the file that the code makes is the defined one
 pub file-defined : (widths : Widths) (inverse : Bool) (form : Form) (layout : WireLayout) → is_right form ≡ true → layout ≡ regions widths widths.addr (length (parameters_of form.first form.second)) 1 2 →
     ◌≡◌ {A = File}
     (record {

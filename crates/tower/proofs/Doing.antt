@@ -1,4 +1,4 @@
--- What a command did, from the calls that it made.
+-- What a command did, by the calls that it made.
 use Rattle.std.proofs.Common.{◌≡◌, sym, subst, ℕ, ◌⊎◌, inl, inr, List, Option, Result, Ok, Err, refl}
 use Rattle.std.specs.Result.{IsErrAnd}
 use Rattle.tw_io.specs.Devices.{Wrote}
@@ -51,7 +51,7 @@ module _ {K : Type 0} (taken : K → Option (List ℕ)) (faults : K → ℕ) whe
   did_lines at file lines (lines_fault.BitsLength line) result is (inl memory) = cc
   did_lines at file lines (lines_fault.Over refusal) result is (inl memory) = cc
 
-  -- a text that answers was written, whole or not
+  -- a text that answers was written, in whole or in part
   pub did_break : (old new : K) (text : List ℕ) (fault : WriteFault) (result : Result (Unit {0}) Unanswered) (IsAnswer : Outcome → Type 0) → IsErrAnd result (λ e. e ≡ unanswered.WriteFault) → IsAnswer (Prints text) →
       Wrote taken faults old new (Err fault) text → Did taken faults old new result IsAnswer
   did_break old new text fault result IsAnswer is answer wrote = as_error old new result unanswered.WriteFault IsAnswer is (record { text = text; answer = answer; took = wrote.broken; cause = wrote.cause })
@@ -59,7 +59,7 @@ module _ {K : Type 0} (taken : K → Option (List ℕ)) (faults : K → ℕ) whe
   pub did_print : (old new : K) (text : List ℕ) (done : Unit {0}) (IsAnswer : Outcome → Type 0) → IsAnswer (Prints text) → Wrote taken faults old new (Ok done) text → Printed taken faults old new IsAnswer
   did_print old new text done IsAnswer answer wrote = record { text = text; answer = answer; took = wrote.whole; steady = wrote.steady }
 
-  -- an answer to a part of the input is one to the input
+  -- an answer to a part of the input is an answer to the input
   pub did_as : {IsAnswer IsWhole : Outcome → Type 0} (old new : K) (result : Result (Unit {0}) Unanswered) → ((outcome : Outcome) → IsAnswer outcome → IsWhole outcome) → Did taken faults old new result IsAnswer → Did taken faults old new result IsWhole
   did_as old new (Ok done) whole did = record { text = did.text; answer = whole (Prints did.text) did.answer; took = did.took; steady = did.steady }
   did_as old new (Err (unanswered.Refused why)) whole did = (whole (Refuses why) did.0, did.1)

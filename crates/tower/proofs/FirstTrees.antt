@@ -1,4 +1,4 @@
--- The form that is found in a tree is that of a program of the first form, and is found in each such tree.
+-- A program is of the first form exactly if a form is found in its tree.
 use Rattle.std.proofs.Common.{◌≡◌, ◌≢◌, ◌∙◌, ap, sym, subst, ℕ, zero, suc, ◌≤◌, Bool, true, false, not, ◌&&◌, ◌||◌, List, [], ◌∷◌, map, length, codes, Option, Some, None, Contains, arith, refl}
 use Rattle.std.specs.Str.{bytes_eq}
 use Rattle.std.specs.List.{AllByRecursion}
@@ -81,7 +81,7 @@ main_found fun form found =
     rw (found.parameters, found.body)
     (if_found (bytes_eq fun.returned.text form.result && is_right form) (Some form) form (and_both _ _ (bytes_same _ _ found.returned) found.right) refl)
 
--- it is the form of the function that is meant
+-- what is found is the form of the function that the tree denotes
 
 whole : (fun : FunTree) (form : Form) → variables_meant fun.params ≡ Some (map boolean (parameters_of form.first form.second)) → variable_meant fun.returned fun.result ≡ Some (boolean form.result) →
     stmt_meant fun.body ≡ Some (Then (Let form.result (Binary And (Var form.left) (Var form.right))) Skip) → function_meant fun ≡ Some (function_of form)
@@ -108,7 +108,7 @@ first_of tree fun form main found =
       conjunction = conjunction form found.right;
     }
 
--- the form that is found in a program is right, and that of a program of the first form
+-- the form that is found in a program is well-formed, and is that of a program of the first form
 pub form-sound : (decls : List DeclTree) (form : Form) → form_in decls ≡ Some form → IsFirstTree (record { decls = decls }) (function_of form) × (is_right form ≡ true)
 form-sound (FunDecl fun ∷ []) form h =
     let test = found_if (is_main fun) (form_in_main fun) form h in
@@ -141,7 +141,7 @@ different_all : (names : List Name) → AreDifferent (map boolean names) → are
 different_all [] all = refl
 different_all (name ∷ names) all = and_both _ _ (not_among name names (symmetric_too name names all.0)) (different_all names all.1)
 
--- the names of a program of the first form are right
+-- the names of a program of the first form are well-formed
 right_form : (form : Form) → AreDifferent (map boolean (parameters_of form.first form.second)) → IsConjunction (function_of form) form.left form.right → is_right form ≡ true
 unfolding is_right
 right_form form different is =
@@ -190,6 +190,6 @@ form-complete decls function first =
 none_found : {A : Type 0} (found : Option A) (x : A) → found ≡ None → found ≡ Some x → ⊥
 none_found found x e f = let h = sym e ∙ f in cc
 
--- a program in which no form is found is none of the first form
+-- a program in which no form is found is not of the first form
 pub no_form-complete : (decls : List DeclTree) → form_in decls ≡ None → (function : Function) → IsFirstTree (record { decls = decls }) function → ⊥
 no_form-complete decls none function first = let found = form-complete decls function first in none_found (form_in decls) found.0 none found.1

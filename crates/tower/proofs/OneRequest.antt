@@ -1,4 +1,4 @@
--- Arguments ask for one request.
+-- Arguments are at most one request.
 use Rattle.std.proofs.Common.{◌≡◌, ◌∙◌, ap, sym, ℕ, ◌<◌, ◌^◌, Bool, true, false, if◌then◌else◌, List, [], ◌∷◌, ◌++◌, drop, codes, arith, append-nil, refl}
 use Rattle.std.specs.Str.{bytes_eq}
 use Rattle.std.specs.List.{flat_map}
@@ -10,7 +10,7 @@ use Rattle.tower.specs.declared.options.Key.TheVariants as key
 use Rattle.tower.specs.Requests.{FileRequest, Request, Format, Compile, Simulate, Invert, Choice, choice_words, values_of, wanted, AsksFile, Asks}
 use Rattle.tower.proofs.Choices.{Continues, continues, nil_cons, head_is}
 
--- arguments with these first words are not the same
+-- arguments that begin with different commands are different
 apart : (words : List (List ℕ)) (first other : List ℕ) (rest more : List (List ℕ)) → bytes_eq first other ≡ false → words ≡ first ∷ rest → words ≡ other ∷ more → ⊥
 apart words first other rest more differ e f = not_from_Decides _ (bytes_eq-Decides first other) differ (head_is first other rest more (sym e ∙ f))
 
@@ -24,7 +24,7 @@ same_request : (w w' a a' : ℕ) (i i' : Bool) → w ≡ w' → a ≡ a' → i �
     ◌≡◌ {A = FileRequest} (record { widths = record { word = w; addr = a }; inverse = i }) (record { widths = record { word = w'; addr = a' }; inverse = i' })
 same_request w w' a a' i i' e f g = cc
 
--- options that want the same values want the same file
+-- options with the same values have the same file request
 one_wanted : (file other : FileRequest) → file.widths.word < 2 ^ 64 → other.widths.word < 2 ^ 64 → file.widths.addr < 2 ^ 64 → other.widths.addr < 2 ^ 64 → ((k : Key) → wanted k file ≡ wanted k other) → file ≡ other
 one_wanted file other a b c d same =
     let word = decimal_injective file.widths.word other.widths.word a b (head_is _ _ [] [] (same key.Word)) in

@@ -1,4 +1,4 @@
--- What was printed keeps its promises.
+-- What was printed has the properties that `tower_main` promises.
 use Rattle.std.proofs.Common.{◌≡◌, ◌≢◌, ◌∙◌, ◌≤◌, ap, sym, subst, ℕ, ◌⊎◌, inl, inr, List, Option, IfSome}
 use Rattle.tw_io.specs.Devices.{Appends}
 use Rattle.tw_text.specs.declared.diagnostic.Diagnostic.{Diagnostic}
@@ -104,7 +104,7 @@ asked_answer words bytes text request asks (OnInput other also few is) = subst (
 asked_answer words bytes text request asks (TooLong other also many e) = absurd (no_text text _ e)
 asked_answer words bytes text request asks (Usage none e) = absurd (none request asks)
 
--- a call that ended well gave a text that keeps what all such texts keep
+-- a call that ended with Ok gave a text that has each property of all such texts
 pub asked_given : (request : Request) (left before now : Option (List ℕ)) (words : List (List ℕ)) (ended : Status) (Promise : List ℕ → Type 0) → ((bytes text : List ℕ) → Appends before now text → InputAnswer request bytes (Prints text) → Promise bytes) →
     Answered left before now words ended → Asks words request → ended ≡ status.Ok → IfSome left Promise
 asked_given request left before now words ended Promise keeps answered asks ok = if_told left by_gave (told_answer left before now words ended answered)

@@ -1,4 +1,4 @@
--- What the parts of a tree mean, by what is found in them, and the other way round.
+-- What the parts of a tree denote, from what is found in them, and conversely.
 use Rattle.std.proofs.Common.{◌≡◌, ◌∙◌, ap, sym, ℕ, ◌≤◌, true, ◌&&◌, List, [], ◌∷◌, map, length, Option, Some, None, option_map, arith, refl}
 use Rattle.tw_syntax.specs.declared.term.OpKind.{OpKind}
 use Rattle.tw_syntax.specs.declared.term.OpKind.TheVariants as op
@@ -180,7 +180,7 @@ parameters-meant (p ∷ q ∷ []) first second h =
 parameters-meant [] first second h = cc
 parameters-meant (p ∷ q ∷ r ∷ params) first second h = cc
 
--- a variable and those behind it
+-- a variable and those after it
 pub record Parts (v : Option Variable) (vs : Option (List Variable)) (all : List Variable) : Type 0 where
   pub first : Variable
   pub rest : List Variable
@@ -193,7 +193,7 @@ more_parts (Some x) (Some xs) all h = record { first = x; rest = xs; first_is = 
 more_parts None vs all h = cc
 more_parts (Some x) None all h = cc
 
--- the names of parameters that mean one or two variables
+-- the names of parameters that denote one or two variables
 pub record Named (params : List ParamTree) (variables : List Variable) : Type 0 where
   pub first : Name
   pub second : Option Name
@@ -231,7 +231,7 @@ meant-parameters (p ∷ q ∷ r ∷ params) variables h some few =
     let last = more_parts (variable_meant r.name r.ty) (variables_meant params) more.rest more.rest_is in
     absurd (omega (arith, few, ap length parts.whole, ap length more.whole, ap length last.whole))
 
--- the parts of a function that is meant
+-- the parts of a function that a tree denotes
 pub record Whole (fun : FunTree) (function : Function) : Type 0 where
   pub parameters : variables_meant fun.params ≡ Some function.parameters
   pub result : variable_meant fun.returned fun.result ≡ Some function.result

@@ -1,4 +1,4 @@
--- The variables of a function that a tree stands for are truth values.
+-- The variables of a function that a tree denotes are truth values.
 use Rattle.std.proofs.Common.{◌≡◌, ap, ℕ, List, [], ◌∷◌, ◌++◌, Some, subst}
 use Rattle.tw_syntax.specs.Programs.{ParamTree, FunTree}
 use Rattle.tw_types.specs.Types.{Boolean}
@@ -14,7 +14,7 @@ use Rattle.tower.proofs.TreesMeant.{meant-variable, more_parts, meant-whole}
 is_boolean : (variable : Variable) {name : List ℕ} → variable ≡ boolean name → variable.ty ≡ Boolean
 is_boolean variable is = ap (λ (v : Variable). v.ty) is
 
--- parameters that are meant are truth values, and so they are with another behind them
+-- the variables of parameters are truth values, also with a result that is one after them
 meant-all : (params : List ParamTree) (variables : List Variable) (result : Variable) → variables_meant params ≡ Some variables → result.ty ≡ Boolean → AreBoolean (variables ++ result ∷ [])
 meant-all [] variables result meant last =
     subst (λ (vs : List Variable). AreBoolean (vs ++ result ∷ [])) (some_is _ _ meant) (last, tt)
@@ -23,7 +23,7 @@ meant-all (param ∷ params) variables result meant last =
     let is = meant-variable param.name param.ty parts.first parts.first_is in
     rw parts.whole (is_boolean parts.first is.1, meant-all params parts.rest result parts.rest_is last)
 
--- all variables of a function that is meant are truth values
+-- all variables of a function that a tree denotes are truth values
 pub meant-booleans : (fun : FunTree) (function : Function) → function_meant fun ≡ Some function → AreBoolean (variables_at_end function)
 meant-booleans fun function meant =
     let parts = meant-whole fun function meant in

@@ -1,4 +1,4 @@
--- The values that were given to the keys, against those that a request wants.
+-- The values that were given to the keys, compared with those of a request.
 use Rattle.std.proofs.Common.{◌≡◌, ◌≢◌, ◌∙◌, ap, sym, subst, ℕ, ◌<◌, ◌≤◌, ◌^◌, Bool, true, false, if◌then◌else◌, List, [], ◌∷◌, ◌++◌, length, drop, codes, decimal, Option, Some, None, IfSome, option_map, option_to_list, slice_get, arith, append-nil, refl}
 use denote.Ref.{Bor}
 use Rattle.std.specs.List.{flat_map}
@@ -16,11 +16,11 @@ given_none values k e = ap (λ (o : Option (Bor (List ℕ))). option_to_list (op
 given_some : (values : List (Option (Bor (List ℕ)))) (k : Key) (v : Bor (List ℕ)) → value_given values k ≡ Some v → given_to values k ≡ (if is_flag k then [] else v.now) ∷ []
 given_some values k v e = ap (λ (o : Option (Bor (List ℕ))). option_to_list (option_map (λ text. if is_flag k then [] else text.now) o)) e
 
--- a key without a value, where one is wanted
+-- a key without a value that needs one
 pub no_value : (values : List (Option (Bor (List ℕ)))) (k : Key) → value_given values k ≡ None → (request : FileRequest) (w : List ℕ) → wanted k request ≡ w ∷ [] → AreWanted values request → ⊥
 no_value values k none request w wants are = nil_cons w [] (sym (given_none values k none) ∙ (are.each k ∙ wants))
 
--- the value of a key that is no flag is the one that is wanted
+-- the value of a key that is no flag is that of the request
 value_is : (values : List (Option (Bor (List ℕ)))) (k : Key) (v : Bor (List ℕ)) → value_given values k ≡ Some v → is_flag k ≡ false → (request : FileRequest) (w : List ℕ) → wanted k request ≡ w ∷ [] → AreWanted values request → v.now ≡ w
 value_is values k v given flag request w wants are =
     let same = sym (given_some values k v given) ∙ (are.each k ∙ wants) in
@@ -35,7 +35,7 @@ other_addr values v given none request are = none request.widths.addr (omega (ar
 pub other_entry : (values : List (Option (Bor (List ℕ)))) (v : Bor (List ℕ)) → value_given values key.Entry ≡ Some v → v.now ≢ codes "main" → (request : FileRequest) → AreWanted values request → ⊥
 other_entry values v given other request are = other (value_is values key.Entry v given refl request _ refl are)
 
--- widths that are read are those that are wanted
+-- widths out of range are those of no request
 pub out_of_range : (values : List (Option (Bor (List ℕ)))) (v w : Bor (List ℕ)) (word addr : ℕ) → word < 2 ^ 32 → addr < 2 ^ 32 → value_given values key.Word ≡ Some v → value_given values key.Addr ≡ Some w → v.now ≡ decimal word → w.now ≡ decimal addr →
     (AreInRange (record { word = word; addr = addr }) → ⊥) → (request : FileRequest) → AreWanted values request → ⊥
 out_of_range values v w word addr small narrow given also is too out request are =
@@ -54,12 +54,12 @@ wanted_once key.Inverse request = by_flag request.inverse
     by_flag true = omega arith
     by_flag false = omega arith
 
--- arguments that are no options ask for no file
+-- arguments that are no options are no file request
 pub no_options : (words : List (List ℕ)) → AreNotGiven (drop 1 words) → (request : FileRequest) → AsksFile words request → ⊥
 no_options words none request asks =
     none asks.choices (ap (drop 1) asks.spelled) (λ k. rw (asks.values k) (wanted_once k request))
 
--- nor do options with other values
+-- neither are options with other values
 pub not_wanted : (words : List (List ℕ)) (values : List (Option (Bor (List ℕ)))) → AreGiven (drop 1 words) [] values → ((request : FileRequest) → AreWanted values request → ⊥) → (request : FileRequest) → AsksFile words request → ⊥
 not_wanted words values given none request asks = by_rest (continues asks.choices given.choices [] (sym (ap (drop 1) asks.spelled) ∙ given.spelled))
   where
@@ -70,7 +70,7 @@ not_wanted words values given none request asks = by_rest (continues asks.choice
         by_list [] spelled each = none request (record { each = λ k. sym (given.each k) ∙ (sym (append-nil (values_of k given.choices)) ∙ (sym (each k) ∙ asks.values k)); in_range = asks.in_range })
         by_list (choice ∷ more) spelled each = nil_cons _ _ spelled
 
--- options with the values that are wanted ask for the file
+-- options with the values of the request are that request
 pub asks_file : (words : List (List ℕ)) (values : List (Option (Bor (List ℕ)))) (request : FileRequest) → slice_get words 0 ≡ Some (codes "compile") → AreGiven (drop 1 words) [] values → AreWanted values request → AsksFile words request
 asks_file [] values request first given are = cc
 asks_file (word ∷ words) values request first given are = record {
@@ -83,7 +83,7 @@ asks_file (word ∷ words) values request first given are = record {
     first_is : (word : List ℕ) (words : List (List ℕ)) → slice_get (word ∷ words) 0 ≡ Some (codes "compile") → word ≡ codes "compile"
     first_is word words e = cc
 
--- one argument, and no further one
+-- one argument alone
 pub alone_is : (words : List (List ℕ)) (word : List ℕ) → slice_get words 0 ≡ Some word → length words ≡ 1 → words ≡ word ∷ []
 alone_is [] word first one = cc
 alone_is (other ∷ []) word first one = cc

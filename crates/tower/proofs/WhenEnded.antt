@@ -37,7 +37,7 @@ told_answer None before now words ended answered = tt
 told_answer (Some all) before now words ended answered =
     subst (λ (b : List ℕ). IsCutShort ended ⊎ GaveWhole words b before now ended) (sym answered.told) (cut_or_whole words answered.bytes before now ended answered.gave)
 
--- arguments that ask for something are not refused as a usage error
+-- arguments that are a request are not refused as a usage error
 
 abbrev not_usage : Outcome → Bool
 not_usage (Refuses diagnostic.Usage) = false
@@ -98,7 +98,7 @@ pub refusal_not_ok : (why : Diagnostic) → refusal_status why ≡ status.Ok →
 refusal_not_ok (diagnostic.Refused refusal) e = rule_not_ok refusal.rule e
 refusal_not_ok other e = cc
 
--- a status comes only where its cause holds
+-- a status comes only if its cause holds
 
 rule_cause : (words : List (List ℕ)) (bytes : List ℕ) (r : Rule) → IsRefusedWith (rule_status r) words bytes → Cause (rule_status r) words bytes
 rule_cause words bytes rule.Utf8 refused = refused
@@ -130,7 +130,7 @@ usage_only left before now words ended answered e = by_gave (subst (λ (s : Stat
     by_gave : GaveWhole words answered.bytes before now status.Usage → IsUsage words
     by_gave gave = by_outcome gave.outcome gave.answer gave.status
 
--- where its cause holds, a status comes
+-- if its cause holds, a status comes
 
 -- an answer with this status
 record HasAnswer (words : List (List ℕ)) (bytes : List ℕ) (wanted : Status) : Type 0 where
@@ -150,7 +150,7 @@ comes left before now words ended answered wanted = if_told left (λ bytes gave 
     by_gave bytes has (inl cut) = inr cut
     by_gave bytes has (inr gave) = inl (sym gave.status ∙ (ap outcome_status (one_answer words bytes gave.outcome has.outcome gave.answer has.answer) ∙ has.status))
 
--- the whole answer was given, where no device failed
+-- the whole answer was given, if no device failed
 
 pub complete : (left before now : Option (List ℕ)) (words : List (List ℕ)) (ended : Status) → (ended ≡ status.ReadFault → ⊥) → (ended ≡ status.WriteFault → ⊥) → Answered left before now words ended → IsComplete left before now words ended
 complete left before now words ended no_read no_write answered = by_source left answered.told

@@ -1,4 +1,4 @@
--- The one answer that arguments and an input have, and what a call did against it.
+-- The one answer that arguments and an input have, and what a call did compared with it.
 use Rattle.std.specs.Prelude.{◌≡◌, ◌⊎◌, ℕ, ◌+◌, ◌<◌, ◌≤◌, List, [], length, Option, IfSome}
 use Rattle.tw_io.specs.Devices.{Appends, AppendsPrefix}
 use Rattle.tw_text.specs.declared.refusal.Counted.TheVariants as counted
@@ -26,11 +26,11 @@ InputAnswer (Compile file) bytes outcome = SourceAnswer bytes (CompileAnswer fil
 InputAnswer Simulate bytes outcome = GatesAnswer bytes SimulateAnswer outcome
 InputAnswer Invert bytes outcome = GatesAnswer bytes InvertAnswer outcome
 
--- the refusal of an input past the limit: one byte more than the limit is counted, whatever follows it
+-- the refusal of an input past the limit: the limit and one more byte are counted, however many bytes follow
 abbrev pub too_long : Refusal
 too_long = passed counted.Input (limit_of counted.Input + 1) first_place
 
--- the answer to arguments and an input: that to the request that they ask for, or a refusal where they ask for none
+-- the answer to arguments and an input: the answer to the request that the arguments are, or a refusal if they are none
 pub data Answer (words : List (List ℕ)) (bytes : List ℕ) (outcome : Outcome) : Type 0 where
   OnInput : (request : Request) → Asks words request → length bytes ≤ limit_of counted.Input → InputAnswer request bytes outcome → Answer words bytes outcome
   TooLong : (request : Request) → Asks words request → limit_of counted.Input < length bytes → outcome ≡ Refuses (diagnostic.Refused too_long) → Answer words bytes outcome
@@ -49,21 +49,21 @@ pub record GavePrefix (words : List (List ℕ)) (bytes : List ℕ) (before now :
   pub answer : Answer words bytes outcome
   pub took : AppendsPrefix before now (outcome_text outcome)
 
--- What was written with each status: nothing where memory ran out or the source failed, a prefix of the answer where the sink
--- failed, and otherwise the whole answer, whose status it is.
+-- What was written with each status: nothing if memory ran out or the source failed, a prefix of an answer if the sink failed,
+-- and otherwise a whole answer, which has that status.
 abbrev pub Gave : List (List ℕ) → List ℕ → Option (List ℕ) → Option (List ℕ) → Status → Type 0
 Gave words bytes before now status.Memory = Appends before now []
 Gave words bytes before now status.ReadFault = Appends before now []
 Gave words bytes before now status.WriteFault = GavePrefix words bytes before now
 Gave words bytes before now other = GaveWhole words bytes before now other
 
--- the call gave what belongs to its status, for the bytes of the source; for some bytes, where the source does not tell them
+-- the call gave what belongs to its status for the bytes of the source, or for some bytes if the source does not report them
 pub record Answered (left before now : Option (List ℕ)) (words : List (List ℕ)) (ended : Status) : Type 0 where
   pub bytes : List ℕ
   pub told : IfSome left (λ all. all ≡ bytes)
   pub gave : Gave words bytes before now ended
 
--- the call gave the whole answer with its status, or memory ran out and nothing was written
+-- if the source reports its bytes, the call gave the whole answer with its status, or memory ran out and nothing was written
 abbrev pub IsComplete : Option (List ℕ) → Option (List ℕ) → Option (List ℕ) → List (List ℕ) → Status → Type 0
 IsComplete left before now words ended = IfSome left (λ bytes.
     ((ended ≡ status.Memory) × Appends before now []) ⊎ GaveWhole words bytes before now ended)
@@ -78,8 +78,8 @@ pub record IsRefusedWith (ended : Status) (words : List (List ℕ)) (bytes : Lis
   pub answer : Answer words bytes (Refuses why)
   pub status : refusal_status why ≡ ended
 
--- When a call ends with each status, unless it is cut short: with Ok where a text answers the request, with Usage where the
--- arguments ask for nothing, and with each other one where a refusal with this status answers it.
+-- When a call ends with each status, unless it is cut short: with Ok if a text answers the request, with Usage if the
+-- arguments are no request, and with any other status if a refusal with that status is the answer.
 abbrev pub Cause : Status → List (List ℕ) → List ℕ → Type 0
 Cause status.Ok words bytes = (text : List ℕ) × Answer words bytes (Prints text)
 Cause status.Usage words bytes = IsUsage words

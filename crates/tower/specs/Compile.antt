@@ -1,4 +1,4 @@
--- The answer to `compile`, and the headline: what a printed gate file promises of the program that it was made from.
+-- The answer to `compile`, and the headline: what a printed gate file promises of its program.
 use Rattle.std.specs.Prelude.{◌≡◌, ℕ, Bool, false, List, [], ◌++◌, Option}
 use Rattle.tw_io.specs.Devices.{Appends}
 use Rattle.tw_text.specs.declared.diagnostic.Diagnostic.TheVariants as diagnostic
@@ -34,9 +34,9 @@ pub data CompileAnswer (request : FileRequest) (tree : ProgramTree) (outcome : O
   Built : (function : Function) → IsFirstTree tree function → outcome ≡ Prints (file_text (file_of request.widths request.inverse function)) → CompileAnswer request tree outcome
   NotBuilt : IsNotBuilt tree → outcome ≡ Refuses diagnostic.NotBuilt → CompileAnswer request tree outcome
 
--- the file can be trusted as the function's
+-- the file of a function, with what is promised of it
 pub record IsCompiled (request : FileRequest) (function : Function) (file : File) : Type 0 where
-  -- it is the one that the circuits and the layout define
+  -- it is the file that the circuits and the layout define
   pub defined : file ≡ file_of request.widths request.inverse function
   -- it is valid, and no valid file's text is a prefix of another's
   pub valid : IsValid file
@@ -45,12 +45,12 @@ pub record IsCompiled (request : FileRequest) (function : Function) (file : File
   pub plain : List PlainGate
   pub plain_file : (file_of request.widths false function).gates ≡ plain
   pub direction : file.gates ≡ directed request.inverse plain
-  -- these take the encoding of each state on which the function has a result to that of the result, and back
+  -- these take the encoding of each state on which the function has a result to the encoding of that result, and back
   pub implements : Implements request.widths [] function file.wires plain
-  -- the printed T-count is what the source costs
+  -- the printed T-count is the cost of the source
   pub t_count : file.t_count ≡ cost function.body
 
--- the input is a program of the first form, and the sink took the text of a file that can be trusted as its function's
+-- the input is a program of the first form, and the sink took the text of a file with what is promised of it
 pub record Compiled (request : FileRequest) (bytes : List ℕ) (before now : Option (List ℕ)) : Type 0 where
   pub tree : ProgramTree
   pub source : IsSource bytes tree

@@ -16,7 +16,7 @@ use Rattle.tower.specs.declared.ending.Unanswered.TheVariants as unanswered
 use Rattle.tw_text.specs.Refusals.{diagnostic_line}
 use Rattle.tower.specs.Outcomes.{Outcome, Prints, Refuses, refusal_status}
 
--- why a command gives no text, by the error of the call that failed
+-- why a command gives no text, from the error of the call that failed
 abbrev pub of_source : Fault → Unanswered
 of_source (source_fault.Refused refusal) = unanswered.Refused (diagnostic.Refused refusal)
 of_source source_fault.Memory = unanswered.Memory
@@ -31,7 +31,7 @@ of_lines (lines_fault.BitsLength line) = unanswered.Refused (diagnostic.BitsLeng
 of_lines (lines_fault.Over refusal) = unanswered.Refused (diagnostic.Refused refusal)
 of_lines lines_fault.Memory = unanswered.Memory
 
--- a device's error counter rose where the call ended with this fault of it, and nowhere else
+-- a device's error counter rose if the call ended with this fault of the device, and is unchanged otherwise
 pub record IsKept (fault : Status) (before now : ℕ) (ended : Status) : Type 0 where
   pub rose : ended ≡ fault → Rose before now
   pub kept : ended ≢ fault → now ≡ before
@@ -44,22 +44,22 @@ module _ {K : Type 0} (taken : K → Option (List ℕ)) (faults : K → ℕ) whe
     pub took : Appends (taken old) (taken new) text
     pub steady : faults new ≡ faults old
 
-  -- the sink failed in a text that answers, of which it took a prefix
+  -- the sink failed in a text that answers, and took a prefix of it
   pub record Broke (old new : K) (IsAnswer : Outcome → Type 0) : Type 0 where
     pub text : List ℕ
     pub answer : IsAnswer (Prints text)
     pub took : AppendsPrefix (taken old) (taken new) text
     pub cause : Rose (faults old) (faults new)
 
-  -- what a command did: Ok wrote a text that answers; a refusal is an answer, and nothing is written yet; without memory nothing
-  -- was written; at a device fault the sink took a prefix of a text that answers
+  -- What a command did. On Ok the sink took a text that answers. A refusal is an answer, and nothing is written yet.
+  -- If memory ran out, nothing was written. At a device fault the sink took a prefix of a text that answers.
   abbrev pub Did : K → K → Result (Unit {0}) Unanswered → (Outcome → Type 0) → Type 0
   Did old new (Ok done) IsAnswer = Printed old new IsAnswer
   Did old new (Err (unanswered.Refused why)) IsAnswer = IsAnswer (Refuses why) × (new ≡ old)
   Did old new (Err unanswered.Memory) IsAnswer = new ≡ old
   Did old new (Err unanswered.WriteFault) IsAnswer = Broke old new IsAnswer
 
-  -- the sink took the line of a refusal, and this is its status; or the sink failed
+  -- the sink took the line of a refusal, and the call ended with its status; or the sink failed
   pub record RefusedWhole (old new : K) (why : Diagnostic) (ended : Status) : Type 0 where
     pub status : ended ≡ refusal_status why
     pub took : Appends (taken old) (taken new) (diagnostic_line why)
@@ -73,7 +73,7 @@ module _ {K : Type 0} (taken : K → Option (List ℕ)) (faults : K → ℕ) whe
   abbrev pub Refused : K → K → Diagnostic → Status → Type 0
   Refused old new why ended = RefusedWhole old new why ended ⊎ RefusedPrefix old new why ended
 
-  -- how a call ends after a command: a refusal is written now, and nothing else is
+  -- how a call ends after a command: the line of a refusal is written now; nothing else is
   abbrev pub Finished : K → K → Result (Unit {0}) Unanswered → Status → Type 0
   Finished old new (Ok done) ended = (ended ≡ status.Ok) × (new ≡ old)
   Finished old new (Err (unanswered.Refused why)) ended = Refused old new why ended

@@ -1,4 +1,4 @@
--- Which programs are compiled so far.
+-- Programs of the first form: those that are compiled so far.
 use Rattle.std.specs.Prelude.{◌≡◌, ◌≢◌, ◌≤◌, List, [], ◌∷◌, length, codes, Some, None}
 use Rattle.std.specs.List.{AllByRecursion}
 use Rattle.tw_syntax.specs.Programs.{FunTree, FunDecl, ProgramTree}
@@ -7,13 +7,13 @@ use Rattle.tw_state.specs.Programs.{Variable, Function}
 use Rattle.tw_state.specs.FromTrees.{function_meant}
 use Rattle.tw_lower.specs.Correct.{IsConjunction}
 
--- no two of the variables have one name
+-- the names of the variables are all different
 abbrev pub AreDifferent : List Variable → Type 0
 AreDifferent [] = Unit {0}
 AreDifferent (variable ∷ variables) = AllByRecursion (λ other. variable.name ≢ other.name) variables × AreDifferent variables
 
--- The program is one function `main` without a bound, with one or two parameters of different names, all its types `bool`.
--- Its body is one forward `let` of the `&&` of two parameters without steps; the target is no parameter, and is returned.
+-- The program is one function `main` without a bound. It has one or two parameters of different names. All its types are `bool`.
+-- Its body is one forward `let` of the `&&` of two parameters without steps. The target is no parameter, and is returned.
 pub record IsFirstTree (tree : ProgramTree) (function : Function) : Type 0 where
   pub fun : FunTree
   pub alone : tree.decls ≡ FunDecl fun ∷ []

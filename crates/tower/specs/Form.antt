@@ -1,4 +1,4 @@
--- The names of a program that gives the `&&` of two of its one or two parameters.
+-- The names of a program that returns the `&&` of two of its one or two parameters.
 use Rattle.std.specs.Prelude.{Bool, true, not, ◌&&◌, List, [], ◌∷◌, map, Option, Some, None}
 use Rattle.std.specs.List.{list_any}
 use Rattle.std.specs.Str.{bytes_eq}
@@ -23,7 +23,7 @@ abbrev pub parameters_of : Name → Option Name → List Name
 parameters_of first None = first ∷ []
 parameters_of first (Some second) = first ∷ second ∷ []
 
--- whether no two of these are the same
+-- whether all of these are different
 abbrev pub are_different : List Name → Bool
 are_different [] = true
 are_different (name ∷ names) = not (is_among name names) && are_different names
@@ -34,7 +34,7 @@ is_right form =
     let parameters = parameters_of form.first form.second in
     are_different (form.result ∷ parameters) && (is_among form.left parameters && is_among form.right parameters)
 
--- the function that it stands for
+-- the function that the form denotes
 abbrev pub boolean : Name → Variable
 boolean name = record { name = name; ty = Boolean }
 

@@ -1,4 +1,4 @@
--- What lies between the arguments and the code: the options as the code keeps them, and the request of a command of the code.
+-- Requests and options as the code keeps them.
 use Rattle.std.specs.Prelude.{◌≡◌, ℕ, ◌≤◌, if◌then◌else◌, List, [], ◌∷◌, ◌++◌, length, drop, get_or, Option, Some, None, option_map, option_to_list}
 use denote.Ref.{Bor}
 use Rattle.std.specs.List.{flat_map}
@@ -11,7 +11,7 @@ use Rattle.tower.specs.declared.request.Command.{Command}
 use Rattle.tower.specs.declared.request.Command.TheVariants as command
 use Rattle.tower.specs.Requests.{FileRequest, Request, Format, Compile, Simulate, Invert, Choice, key_text, is_flag, key_place, choice_words, values_of, wanted}
 
--- the request that a command of the code is
+-- the request that the options of the code are
 abbrev pub file_request : Options → FileRequest
 file_request options = record { widths = options.widths; inverse = options.inverse }
 
@@ -25,12 +25,12 @@ request_of command.Invert = Invert
 abbrev pub keys : List Key
 keys = key.Word ∷ key.Addr ∷ key.Entry ∷ key.Inverse ∷ []
 
--- the first of these keys that is written so
+-- the first of these keys with this text
 abbrev pub key_among : List ℕ → List Key → Option Key
 key_among word [] = None
 key_among word (key ∷ rest) = if bytes_eq word (key_text key) then Some key else key_among word rest
 
--- how many arguments an option with this key takes
+-- the number of arguments that an option with this key takes
 abbrev pub choice_size : Key → ℕ
 choice_size key = if is_flag key then 1 else 2
 
@@ -46,21 +46,21 @@ IsNoChoiceAt words = (choice : Choice) (rest : List (List ℕ)) → ¬ (words �
 abbrev pub value_given : List (Option (Bor (List ℕ))) → Key → Option (Bor (List ℕ))
 value_given values key = get_or values (key_place key) None
 
--- the same as a list, which is empty or has this value; that of a flag is empty
+-- the same as a list, which is empty or has one value; the value of a flag is empty
 abbrev pub given_to : List (Option (Bor (List ℕ))) → Key → List (List ℕ)
 given_to values key = option_to_list (option_map (λ text. if is_flag key then [] else text.now) (value_given values key))
 
--- options with these values are a prefix of the arguments, and these are the rest
+-- options with these values are a prefix of the arguments, and this is the suffix after it
 pub record AreGiven (words rest : List (List ℕ)) (values : List (Option (Bor (List ℕ)))) : Type 0 where
   pub choices : List Choice
   pub spelled : words ≡ flat_map choice_words choices ++ rest
   pub each : (key : Key) → values_of key choices ≡ given_to values key
 
--- the arguments are no options of which each is given at most once
+-- the arguments are not options of which each is given at most once
 abbrev pub AreNotGiven : List (List ℕ) → Type 0
 AreNotGiven words = (choices : List Choice) → words ≡ flat_map choice_words choices → ((key : Key) → length (values_of key choices) ≤ 1) → ⊥
 
--- the values are those for the request
+-- the values are those of the request
 pub record AreWanted (values : List (Option (Bor (List ℕ)))) (request : FileRequest) : Type 0 where
   pub each : (key : Key) → given_to values key ≡ wanted key request
   pub in_range : AreInRange request.widths

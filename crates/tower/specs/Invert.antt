@@ -14,13 +14,14 @@ use Rattle.tower.specs.GateInputs.{next_line}
 abbrev pub inverse_file : File → File
 inverse_file file = record { level = file.level; wires = file.wires; t_count = file.t_count; gates = inverse file.gates }
 
--- a file is answered by the text of the inverse file; an input that goes on after the file is refused at the next line
+-- a file is answered by the text of the inverse file; an input that continues after the file is refused at the next line
 pub data InvertAnswer (file : File) (rest : List ℕ) (outcome : Outcome) : Type 0 where
   AtEnd : rest ≡ [] → outcome ≡ Prints (file_text (inverse_file file)) → InvertAnswer file rest outcome
   GoesOn : rest ≢ [] → outcome ≡ Refuses (diagnostic.BadGateText (next_line file)) → InvertAnswer file rest outcome
 
--- The input is a valid gate file, and the sink took the text of the inverse file, which is valid too and whose inverse is the file.
--- Without Hadamard and T gates, the gates permute bit lists, and the inverse gates undo them.
+-- The input is a valid gate file, and the sink took the text of the inverse file. That file is valid, and the given file is its
+-- inverse.
+-- Without Hadamard and T gates, the gates permute lists of bits, and the inverse gates undo them.
 pub record Inverted (bytes : List ℕ) (before now : Option (List ℕ)) : Type 0 where
   pub file : File
   pub begins : BeginsWith bytes file []

@@ -1,4 +1,4 @@
--- What a request can be answered: a text, or a refusal.
+-- The outcomes of a request: a text, or a refusal.
 use Rattle.std.specs.Prelude.{◌≡◌, ℕ, List, refl, codes}
 use Rattle.std.specs.Fmt.{digits}
 use Rattle.tw_text.specs.declared.refusal.Rule.{Rule}
@@ -9,7 +9,7 @@ use Rattle.tw_text.specs.Refusals.{diagnostic_line}
 use Rattle.tower.specs.declared.status.Status.{Status}
 use Rattle.tower.specs.declared.status.Status.TheVariants as status
 
--- the answer to a request: a text, or the reason why there is none
+-- the outcome of a request: a text, or the reason why there is none
 pub data Outcome : Type 0 where
   Prints : (text : List ℕ) → Outcome
   Refuses : (why : Diagnostic) → Outcome
@@ -51,12 +51,12 @@ refusal_status (diagnostic.BitsLength line) = status.BitsLength
 refusal_status diagnostic.LevelT = status.LevelT
 refusal_status diagnostic.NotBuilt = status.NotBuilt
 
--- the status with which a call ends that gives this answer
+-- the status of a call that gives this outcome
 abbrev pub outcome_status : Outcome → Status
 outcome_status (Prints text) = status.Ok
 outcome_status (Refuses why) = refusal_status why
 
--- the text that it writes
+-- the text of an outcome
 abbrev pub outcome_text : Outcome → List ℕ
 outcome_text (Prints text) = text
 outcome_text (Refuses why) = diagnostic_line why

@@ -1,4 +1,4 @@
--- How the names of a program of the first form are found in its tree. Which trees are of that form is stated in FirstTree.
+-- How the names of a program of the first form are found in its tree. FirstTree states which trees are of that form.
 use Rattle.std.specs.Prelude.{ℕ, Bool, true, false, ◌&&◌, if◌then◌else◌, List, [], ◌∷◌, codes, Option, Some, None, option_and_then, option_map}
 use Rattle.std.specs.Str.{bytes_eq}
 use Rattle.tw_syntax.specs.declared.term.OpKind.TheVariants as op
@@ -19,12 +19,12 @@ abbrev pub is_bool : WrittenTree → Bool
 is_bool (BoolType at) = true
 is_bool other = false
 
--- a name with these steps, where there are none
+-- the name, if there are no steps
 abbrev pub unstepped : Name → List ℕ → Option Name
 unstepped name [] = Some name
 unstepped name (step ∷ steps) = None
 
--- the name that an operand is
+-- the name that an operand is, without steps
 abbrev pub name_in : AtomTree → Option Name
 name_in (PlaceAtom at path) = unstepped path.root.text path.steps
 name_in other = None
@@ -65,11 +65,11 @@ is_none (Some name) = false
 abbrev pub is_main : FunTree → Bool
 is_main fun = bytes_eq fun.name.text (codes "main") && (is_none fun.bound && is_bool fun.result)
 
--- the form, where the result is returned and the form is right
+-- the form, if its result is returned and it is well-formed
 abbrev pub checked : Form → Name → Option Form
 checked form returned = if bytes_eq returned form.result && is_right form then Some form else None
 
--- the form of a function that is `main`
+-- the form of a function, if it is `main`
 unfoldable pub form_in_main : FunTree → Option Form
 form_in_main fun = do
   parameters ← parameters_in fun.params

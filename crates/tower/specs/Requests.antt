@@ -1,4 +1,4 @@
--- Requests, and the command-line arguments that ask for them: a command, and its options in any order.
+-- Requests, and the command-line arguments for them: a command, then its options in any order.
 use Rattle.std.specs.Prelude.{◌≡◌, ℕ, ◌==◌, Bool, true, false, if◌then◌else◌, List, [], ◌∷◌, codes, decimal, refl}
 use Rattle.std.specs.Fmt.{digits}
 use Rattle.std.specs.List.{flat_map}
@@ -7,19 +7,19 @@ use Rattle.tw_types.specs.Types.{Widths, AreInRange}
 use Rattle.tower.specs.declared.options.Key.{Key}
 use Rattle.tower.specs.declared.options.Key.TheVariants as key
 
--- what `compile` is asked for: the widths, and whether the inverse file is wanted
+-- the request of `compile`: the widths, and whether the inverse file is printed
 pub record FileRequest : Type 0 where
   pub widths : Widths
   pub inverse : Bool
 
--- what a call is asked for
+-- the request of a call
 pub data Request : Type 0 where
   Format : Request
   Compile : (file : FileRequest) → Request
   Simulate : Request
   Invert : Request
 
--- how the key of an option is written
+-- the text of a key
 abbrev pub key_text : Key → List ℕ
 key_text key.Word = codes "--word"
 key_text key.Addr = codes "--addr"
@@ -46,35 +46,35 @@ Choice = Key × List ℕ
 abbrev pub choice_words : Choice → List (List ℕ)
 choice_words choice = key_text choice.0 ∷ (if is_flag choice.0 then [] else choice.1 ∷ [])
 
--- the values that are given to a key, in order; each time a flag is given it has the empty value
+-- the values that are given to a key, in order; a flag has the empty value each time it is given
 abbrev pub values_of : Key → List Choice → List (List ℕ)
 values_of key [] = []
 values_of key (choice ∷ choices) =
     if key_place choice.0 == key_place key then (if is_flag key then [] else choice.1) ∷ values_of key choices else values_of key choices
 
--- The values that are given to each key, for this request: numbers are decimal without leading zeros, the entry is `main`, and
--- `--inverse` is given where the inverse file is wanted.
+-- The values that are given to each key in this request. Numbers are decimal without leading zeros. The entry is `main`.
+-- `--inverse` is given if the inverse file is printed.
 abbrev pub wanted : Key → FileRequest → List (List ℕ)
 wanted key.Word file = decimal file.widths.word ∷ []
 wanted key.Addr file = decimal file.widths.addr ∷ []
 wanted key.Entry file = codes "main" ∷ []
 wanted key.Inverse file = if file.inverse then [] ∷ [] else []
 
--- the arguments are `compile` and options in any order, with these values, and the widths are in range
+-- the arguments are `compile`, then options in any order with these values, and the widths are in range
 pub record AsksFile (words : List (List ℕ)) (file : FileRequest) : Type 0 where
   pub choices : List Choice
   pub spelled : words ≡ codes "compile" ∷ flat_map choice_words choices
   pub values : (key : Key) → values_of key choices ≡ wanted key file
   pub in_range : AreInRange file.widths
 
--- the arguments ask for this; `format`, `sim` and `invert` have no options
+-- the arguments are this request; `format`, `sim` and `invert` have no options
 abbrev pub Asks : List (List ℕ) → Request → Type 0
 Asks words Format = words ≡ codes "format" ∷ []
 Asks words (Compile file) = AsksFile words file
 Asks words Simulate = words ≡ codes "sim" ∷ []
 Asks words Invert = words ≡ codes "invert" ∷ []
 
--- the arguments ask for nothing that the program does
+-- the arguments are no request
 abbrev pub IsUsage : List (List ℕ) → Type 0
 IsUsage words = (request : Request) → ¬ Asks words request
 

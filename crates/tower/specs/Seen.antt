@@ -1,4 +1,4 @@
--- The names of a program as bytes, without where they lie in memory.
+-- The names of a program as bytes, without their addresses in memory.
 use Rattle.std.specs.Prelude.{Option, option_map}
 use denote.Ref.{Bor}
 use Rattle.tw_state.specs.States.{Name}

@@ -12,25 +12,27 @@ use Rattle.tw_sim.specs.BitLines.{bit_lines, AreLinesOf, AreRefused}
 use Rattle.tower.specs.Outcomes.{Outcome, Prints, Refuses}
 use Rattle.tower.specs.GateInputs.{next_line}
 
--- the lines of bits that follow a gate file are those after a line `%%`; where the input ends with the file, or with `%%`, there are none
+-- The lines of bits that follow a gate file are those after a line `%%`.
+-- There are none if the input ends with the file or with `%%`.
 pub data HasLines (rest lines : List ℕ) : Type 0 where
   AtEnd : rest ≡ [] → lines ≡ [] → HasLines rest lines
   AtMark : rest ≡ codes "%%" → lines ≡ [] → HasLines rest lines
   AfterMark : rest ≡ codes "%%\n" ++ lines → HasLines rest lines
 
--- lines of bits are answered by what the gates make of each; wrong lines are refused at the first of them
+-- Lines of bits are answered by their images under the gates.
+-- If they are wrong, the first wrong line is refused, or the number of lines that passes its limit.
 pub data LinesAnswer (file : File) (lines : List ℕ) (outcome : Outcome) : Type 0 where
   OnStates : (states : List (List Bool)) → AreLinesOf file.wires lines states → outcome ≡ Prints (bit_lines (map (act file.gates) states)) → LinesAnswer file lines outcome
   WrongLine : (line : ℕ) → AreRefused file.wires lines (fault.BitsLength line) → outcome ≡ Refuses (diagnostic.BitsLength line) → LinesAnswer file lines outcome
   PastLimit : (refusal : Refusal) → AreRefused file.wires lines (fault.Over refusal) → outcome ≡ Refuses (diagnostic.Refused refusal) → LinesAnswer file lines outcome
 
--- A file of level t is refused, whatever follows it. So is another line than `%%` after a file.
+-- A file of level t is refused, whatever follows it. A file of another level is refused if another line than `%%` follows it.
 pub data SimulateAnswer (file : File) (rest : List ℕ) (outcome : Outcome) : Type 0 where
   OfLevelT : file.level ≡ levels.T → outcome ≡ Refuses diagnostic.LevelT → SimulateAnswer file rest outcome
   OnLines : file.level ≢ levels.T → (lines : List ℕ) → HasLines rest lines → LinesAnswer file lines outcome → SimulateAnswer file rest outcome
   OtherLine : file.level ≢ levels.T → ((lines : List ℕ) → ¬ HasLines rest lines) → outcome ≡ Refuses (diagnostic.BadGateText (next_line file)) → SimulateAnswer file rest outcome
 
--- The input is a valid gate file of X gates and lines of bits, and the sink took a line for each: what the gates make of it.
+-- The input is a valid gate file of X gates, then lines of bits, and the sink took the image of each line under the gates.
 pub record Simulated (bytes : List ℕ) (before now : Option (List ℕ)) : Type 0 where
   pub file : File
   pub rest : List ℕ

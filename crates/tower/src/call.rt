@@ -1,3 +1,4 @@
+//! The top call: what each command line does, and what the call promises of it.
 ghost use Rattle.std.specs.Prelude.{◌≡◌, ◌≢◌, ◌≤◌, ◌+◌, ◌⊎◌, ℕ, List, length, IfSome};
 ghost use Rattle.tw_io.specs.Devices.{Rose, TakesBetween, IsAtEnd};
 ghost use Rattle.tw_text.specs.declared.limits.TheConstants.{INPUT_LIMIT};
@@ -23,7 +24,7 @@ use std::alloc::Global;
 use tw_io::{ReadError, Sink, Source, read_all};
 use tw_text::{Counted, Diagnostic, INPUT_LIMIT, Pos, Refusal};
 
-/// Does what is asked for with an input within the limit.
+/// Runs a command on an input within the limit.
 fn answer<K: Sink>(
     alloc: Global,
     command: Command,
@@ -41,7 +42,7 @@ fn answer<K: Sink>(
     }
 }
 
-/// Does what the arguments ask for. `tower_main` says the same in more clauses.
+/// Runs the command that the arguments name. `tower_main` says the same in more clauses.
 fn run<S: Source, K: Sink>(alloc: Global, words: &Words, input: &mut S, output: &mut K) -> Status
     ensures answered { Answered (S.left input.old) (K.taken output.old) (K.taken output.new) words.now result }
     ensures usage { IsUsage words.now → (result ≡ Status.Usage) ⊎ (result ≡ Status.WriteFault) }
@@ -69,35 +70,35 @@ fn run<S: Source, K: Sink>(alloc: Global, words: &Words, input: &mut S, output: 
     }
 }
 
-/// Does what the arguments ask for: reads the input, writes the answer to the output, and says how it ended.
+/// Runs the command that the arguments name: reads the input, writes the answer to the output, and returns how the call ended.
 ///
-/// `format` reads a program and writes it in its one form.
+/// `format` reads a program and writes its printed form.
 ///
 /// `invert` reads a gate file and writes its inverse: the gates in reverse order, with T and its inverse exchanged.
 ///
-/// `sim` reads a gate file of X gates and, after a line `%%`, lines of bits, one bit for each wire from wire 0 on, and writes for
-/// each line what the gates make of it.
+/// `sim` reads a gate file of X gates. Lines of bits follow the file after a line `%%`. A line has one bit for each wire, wire 0
+/// first. `sim` writes the image of each line under the gates.
 ///
-/// `compile --word W --addr A --entry main`, with `--inverse` where wanted and the options in any order, reads a program
-/// and writes its gate file, or the inverse file. `W`, from 1 to 32, is the width of a word, which no program
-/// that is compiled uses yet; `A`, from 1 to 8, is that of an address. Programs of one form are compiled so far, and all others are
-/// refused as not built.
+/// `compile --word W --addr A --entry main` reads a program and writes its gate file, or with `--inverse` the inverse file. The
+/// options may come in any order. `W`, from 1 to 32, is the width of a word; no program that is compiled uses it yet. `A`, from
+/// 1 to 8, is the width of an address. Programs of one form are compiled so far. All others are refused as not built.
 ///
-/// An input that is not what the command reads is refused with a line that says why and where. `docs/FORMATS.md` has all texts
-/// and refusals.
+/// An input that the command does not read is refused with a line that gives the reason, and the place if the refusal has one.
+/// `docs/FORMATS.md` has all texts and refusals.
 pub fn tower_main<S: Source, K: Sink>(
     alloc: Global,
     words: &Words,
     input: &mut S,
     output: &mut K,
 ) -> Status
-    // What was written with each status, against the defined answer; and there is one such answer.
+    // What was written with each status, compared with the defined answer. There is one such answer. If no device fails and the
+    // source reports its bytes, the whole answer is written, or memory runs out and nothing is.
     ensures answered { Answered (S.left input.old) (K.taken output.old) (K.taken output.new) words.now result }
     ensures one_answer { (bytes : List ℕ) (outcome other : Outcome) → Answer words.now bytes outcome → Answer words.now bytes other → outcome ≡ other }
     ensures complete { ¬ Rose (S.faults input.old) (S.faults input.new) → ¬ Rose (K.faults output.old) (K.faults output.new)
         → IsComplete (S.left input.old) (K.taken output.old) (K.taken output.new) words.now result }
 
-    // What a file that was printed promises, a program that was printed, a file that was inverted, and one that was simulated.
+    // What each command promises of the text that it printed.
     ensures headline { (request : FileRequest) → Asks words.now (Compile request) → result ≡ Status.Ok
         → IfSome (S.left input.old) (λ bytes. Compiled request bytes (K.taken output.old) (K.taken output.new)) }
     ensures formatted { Asks words.now Format → result ≡ Status.Ok
@@ -107,18 +108,18 @@ pub fn tower_main<S: Source, K: Sink>(
     ensures simulated { Asks words.now Simulate → result ≡ Status.Ok
         → IfSome (S.left input.old) (λ bytes. Simulated bytes (K.taken output.old) (K.taken output.new)) }
 
-    // When each status comes: only where its cause holds, and where its cause holds, unless the call is cut short.
+    // If the source reports its bytes, a status comes exactly if its cause holds, unless the call is cut short.
     ensures only_where { IfSome (S.left input.old) (λ bytes. IsCutShort result ⊎ Cause result words.now bytes) }
     ensures comes { (wanted : Status) → IfSome (S.left input.old) (λ bytes. Cause wanted words.now bytes → (result ≡ wanted) ⊎ IsCutShort result) }
     ensures usage_only { result ≡ Status.Usage → IsUsage words.now }
     ensures usage { IsUsage words.now → (result ≡ Status.Usage) ⊎ (result ≡ Status.WriteFault) }
 
-    // What was read: nothing for arguments that ask for nothing, at most one byte more than the limit, and all bytes where the answer is Ok.
+    // Nothing is read if the arguments are no request. At most one byte more than the limit is read. On Ok all bytes were read.
     ensures unread { IsUsage words.now → input.new ≡ input.old }
     ensures bounded { TakesBetween (S.left input.old) (S.left input.new) 0 (INPUT_LIMIT + 1) }
     ensures ended { result ≡ Status.Ok → IsAtEnd (S.left input.new) }
 
-    // A device's error counter rises where the call ends with that device's fault, and nowhere else.
+    // A device's error counter rises if the call ends with that device's fault, and is unchanged otherwise.
     ensures read_fault { result ≡ Status.ReadFault → Rose (S.faults input.old) (S.faults input.new) }
     ensures no_read_fault { result ≢ Status.ReadFault → S.faults input.new ≡ S.faults input.old }
     ensures write_fault { result ≡ Status.WriteFault → Rose (K.faults output.old) (K.faults output.new) }

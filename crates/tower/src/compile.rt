@@ -26,7 +26,7 @@ use tw_parse::parse;
 use tw_text::{Arena, Diagnostic};
 use tw_types::Widths;
 
-/// Inverts a list of gates if the inverse is wanted.
+/// Inverts a list of gates if the flag is set.
 fn direct(gates: &mut GateList, inverse: bool)
     ensures { gates.new ≡ directed inverse gates.old }
 {
@@ -61,7 +61,8 @@ fn file_of(
     })
 }
 
-/// Writes the gate file of the program whose source the bytes are, or its inverse: the header lines as one piece, then each line.
+/// Writes the gate file of the program whose source the bytes are, or its inverse. The header lines are one piece, and so is each
+/// line after them.
 pub fn compile<K: Sink>(
     alloc: Global,
     options: Options,

@@ -1,4 +1,4 @@
-//! How a call ends whose command has done its work.
+//! The end of a call: the status, and the line of a refusal.
 ghost use Rattle.std.specs.Prelude.{◌≡◌};
 ghost use Rattle.tower.specs.declared.ending.Unanswered.TheVariants as unanswered;
 ghost use Rattle.tower.specs.Outcomes.{rule_status, refusal_status};
@@ -18,7 +18,7 @@ pub enum Unanswered {
     Refused(Diagnostic),
     /// Memory ran out. Nothing was written.
     Memory,
-    /// The sink failed; it took a prefix of the text.
+    /// The sink failed. It took a prefix of the text.
     WriteFault,
 }
 
@@ -122,7 +122,7 @@ fn refusal_status(why: &Diagnostic) -> Status
     }
 }
 
-/// Writes the line of a refusal, and gives its status, or that of a fault of the sink.
+/// Writes the line of a refusal. Returns its status, or `WriteFault` if the sink fails.
 pub fn refuse<K: Sink>(output: &mut K, why: &Diagnostic) -> Status
     ensures { Refused K.taken K.faults output.old output.new why.now result }
 {
@@ -132,7 +132,7 @@ pub fn refuse<K: Sink>(output: &mut K, why: &Diagnostic) -> Status
     }
 }
 
-/// Ends a call whose command did this: writes the line of a refusal, and gives the status.
+/// Ends a call after its command: writes the line of a refusal, and returns the status.
 pub fn finish<K: Sink>(output: &mut K, did: Result<(), Unanswered>) -> Status
     ensures { Finished K.taken K.faults output.old output.new did result }
 {

@@ -1,4 +1,4 @@
-//! The one form of programs that is compiled so far, found in a syntax tree.
+//! The one form of programs that is compiled so far, and how it is found in a syntax tree.
 ghost use Rattle.std.specs.Prelude.{◌≡◌, ◌≤◌, ◌∷◌, length, map, option_map, if◌then◌else◌};
 ghost use Rattle.std.specs.Str.{bytes_eq};
 ghost use Rattle.tw_syntax.specs.Types.{written_tree};
@@ -14,7 +14,7 @@ use tw_syntax::{
     Written, WrittenKind,
 };
 
-/// A program that gives the `&&` of two of its one or two parameters, by the names in it.
+/// The names of a program that returns the `&&` of two of its one or two parameters.
 #[derive(Clone, Copy)]
 pub struct Form<'a> {
     pub first: &'a str,
@@ -25,7 +25,7 @@ pub struct Form<'a> {
 }
 
 impl<'a> Form<'a> {
-    /// Whether the parameters and the result differ, and each operand is a parameter.
+    /// Whether the names of the parameters and the result are different, and each operand is a parameter.
     #[tactic(auto, unfolding(crate::specs::Form::is_right))]
     fn is_right(&self) -> bool
         ensures { result ≡ is_right (form_seen self.now) }
@@ -43,7 +43,7 @@ impl<'a> Form<'a> {
         }
     }
 
-    /// How many parameters there are.
+    /// The number of parameters.
     pub fn parameter_count(&self) -> u32
         ensures count { result ≡ length (parameters_of self.now.first.now (option_map name_seen self.now.second)) }
         ensures few { result ≤ 2 }
@@ -54,7 +54,7 @@ impl<'a> Form<'a> {
         }
     }
 
-    /// The place of a parameter among the parameters, counted from 0.
+    /// The place of a parameter among the parameters, from 0.
     pub fn place(&self, parameter: &str) -> u32
         ensures place { result ≡ (if bytes_eq self.now.first.now parameter.now then 0 else 1) }
         ensures few { result ≤ 1 }
@@ -119,7 +119,7 @@ fn assigned<'a>(stmt: &Stmt<'a>) -> Option<(&'a str, &'a str, &'a str)>
     }
 }
 
-/// Those of a body that is one such statement.
+/// The target and the operands of a body that is one such statement.
 fn assigned_by<'a>(body: &[Stmt<'a>]) -> Option<(&'a str, &'a str, &'a str)>
     ensures { option_map assigned_seen result ≡ body_in (stmts_tree body.now) }
 {
@@ -143,14 +143,14 @@ fn parameters_of<'a>(params: &[Param<'a>]) -> Option<(&'a str, Option<&'a str>)>
     }
 }
 
-/// Whether the function is `main`, without a bound, and gives a `bool`.
+/// Whether the function is `main`, without a bound, and returns a `bool`.
 fn is_main(fun: &Fun) -> bool
     ensures { result ≡ is_main (fun_tree fun.now) }
 {
     fun.name.text == "main" && fun.bound.is_none() && is_bool(fun.result)
 }
 
-/// The form, if the result is what is returned and all its names are right.
+/// The form, if its result is returned and its names are well-formed.
 fn checked<'a>(form: Form<'a>, returned: &str) -> Option<Form<'a>>
     ensures { option_map form_seen result ≡ checked (form_seen form.entry) returned.now }
 {

@@ -13,7 +13,7 @@ use tw_parse::parse;
 use tw_print::print_program;
 use tw_text::Arena;
 
-/// Writes the printed form of the program whose source the bytes are. The text is put together in memory and written as one piece.
+/// Writes the printed form of the program whose source the bytes are. The text is composed in memory and written as one piece.
 pub fn format<K: Sink>(alloc: Global, bytes: &[u8], output: &mut K) -> Result<(), Unanswered>
     requires { length bytes.now ≤ INPUT_LIMIT }
     ensures { Did K.taken K.faults output.old output.new result (SourceAnswer bytes.now FormatAnswer) }

@@ -12,7 +12,7 @@ use tw_gatetext::{GateFile, read_gates, write_gate_file};
 use tw_io::{Sink, VecSink, write_all};
 use tw_text::Diagnostic;
 
-/// The refusal of an input that goes on wrongly after a gate file.
+/// The refusal of an input that continues after a gate file.
 pub fn wrong_after(file: &GateFile) -> Unanswered
     requires { length file.now.gates ≤ LINES_LIMIT }
     ensures { result ≡ Unanswered.Refused (Diagnostic.BadGateText (next_line (plain_file file.now))) }
@@ -22,7 +22,7 @@ pub fn wrong_after(file: &GateFile) -> Unanswered
     })
 }
 
-/// Writes the inverse of the gate file that the bytes are. The text is put together in memory and written as one piece.
+/// Writes the inverse of the gate file that the bytes are. The text is composed in memory and written as one piece.
 pub fn invert<K: Sink>(alloc: Global, bytes: &[u8], output: &mut K) -> Result<(), Unanswered>
     requires { length bytes.now ≤ INPUT_LIMIT }
     ensures { Did K.taken K.faults output.old output.new result (GatesAnswer bytes.now InvertAnswer) }

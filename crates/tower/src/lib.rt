@@ -1,6 +1,6 @@
-//! The compiler as one call, from command-line arguments and a source of bytes to a sink of bytes and a status.
-//! Each command has a file here and one of the same name in `specs/`, which says what it answers; `specs/Answer.antt` says what a
-//! call answers to arguments and an input.
+//! The compiler as one call: from command-line arguments and a source of bytes to a sink of bytes and a status.
+//! Each command has a file here and one of the same name in `specs/`, which defines its answer. `specs/Answer.antt` defines the
+//! answer of a call to arguments and an input.
 #![tactic(auto)]
 
 mod call;

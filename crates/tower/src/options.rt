@@ -1,4 +1,4 @@
-//! The options of a command: keys, each with a value or alone.
+//! The options of a command: keys, each followed by a value or alone.
 ghost use Rattle.std.specs.Prelude.{◌≡◌, ◌≢◌, ◌<◌, [], length, drop, set, IfSome};
 ghost use Rattle.std.specs.Option.{IfNone};
 ghost use Rattle.tower.specs.Requests.{is_flag, key_place};
@@ -15,15 +15,15 @@ pub enum Key {
     Addr,
     /// The function that is compiled.
     Entry,
-    /// The inverse file is wanted.
+    /// The inverse file is printed.
     Inverse,
 }
 
-/// How many keys there are.
+/// The number of keys.
 const KEY_COUNT: usize = 4;
 
 impl Key {
-    /// The key that is written so.
+    /// The key with this text.
     fn from_text(word: &str) -> Option<Key>
         ensures { result ≡ key_among word.now keys }
     {
@@ -43,7 +43,7 @@ impl Key {
         self == Key::Inverse
     }
 
-    /// How many arguments an option with this key takes.
+    /// The number of arguments that an option with this key takes.
     fn size(self) -> usize
         ensures { result ≡ choice_size self }
     {
@@ -66,7 +66,7 @@ struct Choice<'w> {
     value: &'w str,
 }
 
-/// The option whose key is the argument at a place.
+/// The option whose key is the argument at a place. `None` if no option is there.
 fn choice_at(words: &Words, place: usize) -> Option<Choice<'_>>
     requires { place < length words.now }
     ensures some { IfSome result (λ choice. IsChoiceAt (drop place words.now) choice.key choice.value.now) }
@@ -85,7 +85,7 @@ fn choice_at(words: &Words, place: usize) -> Option<Choice<'_>>
     })
 }
 
-/// The values that were given to the keys, each at most once.
+/// The values that were given to the keys, at most one to each.
 #[derive(Clone, Copy)]
 pub struct Given<'w> {
     values: [Option<&'w str>; KEY_COUNT],
@@ -99,7 +99,7 @@ impl<'w> Given<'w> {
         self.values[key.place()]
     }
 
-    /// These values with one more option, unless its key was given before.
+    /// These values with one more option. `None` if its key was given before.
     fn with(mut self, choice: Choice<'w>) -> Option<Given<'w>>
         ensures some { IfSome result (λ given. (value_given self.entry.values choice.entry.key ≡ None)
             × (key_place choice.entry.key < length self.entry.values)
@@ -116,7 +116,7 @@ impl<'w> Given<'w> {
     }
 }
 
-/// The options that follow the command, if they are options of which each is given at most once.
+/// The options after the command. `None` if the arguments are not options of which each is given at most once.
 pub fn options_of(words: &Words) -> Option<Given<'_>>
     requires { 0 < length words.now }
     ensures some { IfSome result (λ given. AreGiven (drop 1 words.now) [] given.values) }

@@ -1,4 +1,4 @@
-//! What the arguments of a call ask for.
+//! The request that the arguments of a call are.
 ghost use Rattle.std.specs.Prelude.{◌≡◌, ◌<◌, ◌^◌, ℕ, decimal, codes, slice_get, length, IfSome};
 ghost use Rattle.std.specs.Option.{IfNone};
 ghost use Rattle.std.specs.Str.{bytes_eq};
@@ -9,29 +9,29 @@ use crate::options::{Given, Key, options_of};
 use crate::words::Words;
 use tw_types::Widths;
 
-/// What `compile` is asked for.
+/// The options of `compile`.
 #[derive(Debug, Clone, Copy, PartialEq, Eq)]
 pub struct Options {
     /// The widths that the program is compiled for.
     pub widths: Widths,
-    /// Whether the inverse file is wanted.
+    /// Whether the inverse file is printed.
     pub inverse: bool,
 }
 
-/// What a call is asked for.
+/// A command, with its options.
 #[derive(Debug, Clone, Copy, PartialEq, Eq)]
 pub enum Command {
     /// The printed form of a program.
     Format,
     /// The gate file of a program, or the inverse file.
     Compile(Options),
-    /// What the gates of a file do to lines of bits.
+    /// The images of lines of bits under the gates of a file.
     Simulate,
     /// The inverse of a gate file.
     Invert,
 }
 
-/// The width that a word writes.
+/// The width that an argument is.
 fn width(word: &str) -> Option<u32>
     ensures some { IfSome result (λ n. word.now ≡ decimal n) }
     ensures none { IfNone result ((n : ℕ) → n < 2 ^ 32 → ¬ (word.now ≡ decimal n)) }
@@ -50,7 +50,7 @@ fn is_main(word: &str) -> bool
     word == "main"
 }
 
-/// What the options of `compile` ask for.
+/// The request that the options of `compile` are.
 fn file_options(given: &Given) -> Option<Options>
     ensures some { IfSome result (λ options. AreWanted given.now.values (file_request options)) }
     ensures none { IfNone result ((request : FileRequest) → ¬ AreWanted given.now.values request) }
@@ -67,7 +67,7 @@ fn file_options(given: &Given) -> Option<Options>
     })
 }
 
-/// What the arguments after `compile` ask for.
+/// The request that the arguments after `compile` are.
 fn compile_of(words: &Words) -> Option<Command>
     requires { slice_get words.now 0 ≡ Some (codes "compile") }
     ensures some { IfSome result (λ command. Asks words.now (request_of command)) }
@@ -78,7 +78,7 @@ fn compile_of(words: &Words) -> Option<Command>
     Some(Command::Compile(options))
 }
 
-/// A command without options, if no argument follows it.
+/// A command without options. `None` if an argument follows it.
 fn alone(command: Command, words: &Words) -> Option<Command>
     requires { 0 < length words.now }
     ensures some { IfSome result (λ found. (found ≡ command) × (length words.now ≡ 1)) }
@@ -87,7 +87,7 @@ fn alone(command: Command, words: &Words) -> Option<Command>
     if words.len() < 2 { Some(command) } else { None }
 }
 
-/// What the arguments ask for, if they are a command and its options.
+/// The command that the arguments are, with its options. `None` if they are none.
 pub fn command_of(words: &Words) -> Option<Command>
     ensures some { IfSome result (λ command. Asks words.now (request_of command)) }
     ensures none { IfNone result (IsUsage words.now) }

@@ -1,4 +1,4 @@
-//! `sim`: what the X gates of a file do to lines of bits.
+//! `sim`: the images of lines of bits under the X gates of a file.
 ghost use Rattle.std.specs.Prelude.{◌≤◌, length, List, ℕ, IfSome};
 ghost use Rattle.std.specs.Option.{IfNone};
 ghost use Rattle.tw_text.specs.declared.limits.TheConstants.{INPUT_LIMIT};
@@ -16,8 +16,8 @@ use tw_gatetext::{GateFile, read_gates};
 use tw_io::{Sink, write_all};
 use tw_text::{Diagnostic, after};
 
-/// The lines of bits that follow a gate file: those after a line `%%`, or none where nothing follows the file or `%%`.
-/// `None` where something else follows the file.
+/// The lines of bits after a gate file: those after a line `%%`. There are none if the input ends with the file or with `%%`.
+/// `None` if something else follows the file.
 fn lines_after(rest: &[u8]) -> Option<&[u8]>
     ensures some { IfSome result (λ lines. HasLines rest.now lines.now) }
     ensures none { IfNone result ((lines : List ℕ) → ¬ HasLines rest.now lines) }
@@ -32,7 +32,7 @@ fn lines_after(rest: &[u8]) -> Option<&[u8]>
     after(marked, b"\n")
 }
 
-/// Writes what the gates of a file make of each line of bits.
+/// Writes the image of each line of bits under the gates of a file.
 fn answer_lines<K: Sink>(
     alloc: Global,
     file: &GateFile,
@@ -47,7 +47,7 @@ fn answer_lines<K: Sink>(
     Ok(())
 }
 
-/// Answers what follows a gate file.
+/// Writes the answer to what follows a gate file.
 fn answer_rest<K: Sink>(
     alloc: Global,
     file: &GateFile,
@@ -66,7 +66,7 @@ fn answer_rest<K: Sink>(
     }
 }
 
-/// Simulates the gate file that is a prefix of the bytes on the lines of bits after it. The text is put together in memory and
+/// Simulates the gate file that is a prefix of the bytes on the lines of bits after it. The text is composed in memory and
 /// written as one piece.
 pub fn simulate<K: Sink>(alloc: Global, bytes: &[u8], output: &mut K) -> Result<(), Unanswered>
     requires { length bytes.now ≤ INPUT_LIMIT }

@@ -1,24 +1,25 @@
+//! The statuses of calls, and the exit statuses of the program.
 ghost use Rattle.std.specs.Prelude.{◌≡◌};
 ghost use Rattle.tower.specs.Outcomes.{status_number};
 
 /// How a call ended.
 #[derive(Debug, Clone, Copy, PartialEq, Eq)]
 pub enum Status {
-    /// The input was read to its end and the whole answer was written.
+    /// The input was read to its end, and the whole answer was written.
     Ok,
-    /// Memory was wanting; nothing was written.
+    /// Memory ran out. Nothing was written.
     Memory,
-    /// The words are none that the program knows; nothing was read.
+    /// The arguments are not those of a command. Nothing was read.
     Usage,
-    /// The source failed; nothing was written.
+    /// The source failed. Nothing was written.
     ReadFault,
-    /// The sink failed; a front of the answer was written.
+    /// The sink failed. It took a prefix of the answer.
     WriteFault,
-    /// The source text is not UTF-8.
+    /// The source has invalid UTF-8.
     Utf8,
-    /// The source text holds what is no token.
+    /// The source has a lexical error.
     Token,
-    /// The tokens are no program.
+    /// The source has a syntax error.
     Syntax,
     /// A name or a type of the program is wrong.
     Resolve,
@@ -36,7 +37,7 @@ pub enum Status {
     LevelT,
     /// A run has no result on a state.
     Stuck,
-    /// The source is a program, and none of those that are compiled.
+    /// The source is a program that is not compiled yet.
     NotBuilt,
 }
 

@@ -1,3 +1,4 @@
+//! Calls with concrete arguments and inputs: whole answers, refusals, and device faults.
 use crate::{Status, Words, tower_main};
 use std::alloc::AllocError;
 use tw_io::{MemSink, MemSource, PlainSource, VecSink};
@@ -16,7 +17,7 @@ struct Answer {
     text: Vec<u8>,
 }
 
-/// The words of a line, which are separated by single spaces.
+/// The arguments of a command line, which single spaces separate.
 fn words_of(rt: &HostRuntime, line: &str) -> Result<Words, AllocError> {
     let mut words = Words::new(rt.alloc());
     for word in line.split(' ') {
@@ -25,12 +26,12 @@ fn words_of(rt: &HostRuntime, line: &str) -> Result<Words, AllocError> {
     Ok(words)
 }
 
-/// The answer to words and a source text, with ample memory, from devices that never fail.
+/// The answer to arguments and a source text, with ample memory, from devices that never fail.
 fn call(rt: &HostRuntime, line: &str, text: &str) -> Result<Answer, AllocError> {
     call_on(rt, line, Vec::from_slice(rt.alloc(), text.as_bytes())?)
 }
 
-/// The answer to words and an input.
+/// The answer to arguments and an input.
 fn call_on(rt: &HostRuntime, line: &str, bytes: Vec<u8>) -> Result<Answer, AllocError> {
     let words = words_of(rt, line)?;
     let mut input = PlainSource::new(bytes);
@@ -95,7 +96,7 @@ fn prints_programs_in_their_one_form(rt: HostRuntime) -> Result<(), AllocError> 
     Ok(())
 }
 
-/// A text with so many copies of a part in its middle.
+/// A text with this number of copies of a part in its middle.
 fn repeated(
     rt: &HostRuntime,
     front: &str,
@@ -124,7 +125,7 @@ fn prints_long_programs(rt: HostRuntime) -> Result<(), AllocError> {
     Ok(())
 }
 
-/// Whether the words on this input end with this status and exactly this text.
+/// Whether the arguments and this input have this status and exactly this text as answer.
 fn answers(
     rt: &HostRuntime,
     line: &str,
@@ -346,7 +347,7 @@ fn answers_what_stands_behind_a_file(rt: HostRuntime) -> Result<(), AllocError> 
     Ok(())
 }
 
-/// The answer where one read fails, each read giving a byte, or one write fails, or the sink has little room.
+/// The answer if one read fails, each read giving a byte, or one write fails, or the sink has little room.
 fn cut_short(
     rt: &HostRuntime,
     line: &str,
@@ -380,7 +381,7 @@ fn each_read_fails_in_turn(rt: HostRuntime) -> Result<(), AllocError> {
         let given = cut_short(&rt, line, text, text.len() as u64 + 2, 1000, 0)?;
         assert_eq!(rt; given.status, Status::Ok, "{line}");
     }
-    // With wrong words nothing is read, so the read that would fail does not come.
+    // With wrong arguments nothing is read, so the read that would fail does not come.
     let wrong = "compile --word 33 --addr 1 --entry main";
     let given = cut_short(&rt, wrong, AND, 1, 1000, 0)?;
     assert_eq!(rt; given.status, Status::Usage);

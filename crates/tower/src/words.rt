@@ -1,9 +1,10 @@
+//! Command-line arguments.
 ghost use Rattle.std.specs.Prelude.{◌≡◌, [], ◌∷◌, ◌++◌, ◌<◌, ◌==◌, length, slice_get, Some, OnOk, OnErr};
 
 use std::alloc::{AllocError, Global};
 use std::marker::Model;
 
-/// The words that a program is called with, without its own name.
+/// The command-line arguments, without the name of the program.
 #[derive(Debug, Drop)]
 pub struct Words {
     words: Vec<String>,
@@ -18,7 +19,7 @@ impl Model for Words {
 }
 
 impl Words {
-    /// No words.
+    /// No arguments.
     pub fn new(alloc: Global) -> Words
         ensures { result ≡ [] }
     {
@@ -27,7 +28,7 @@ impl Words {
         }
     }
 
-    /// Appends a word; where memory is wanting, the words stay as they were.
+    /// Appends an argument. On an allocation failure the arguments are unchanged.
     pub fn push(&mut self, word: &str) -> Result<(), AllocError>
         ensures appended { OnOk result (self.new ≡ self.old ++ word.now ∷ []) }
         ensures unchanged { OnErr result (self.new ≡ self.old) }
@@ -38,21 +39,21 @@ impl Words {
         Ok(())
     }
 
-    /// How many words there are.
+    /// The number of arguments.
     pub fn len(&self) -> usize
         ensures { result ≡ length self.now }
     {
         self.words.len()
     }
 
-    /// Whether there are none.
+    /// Whether there are no arguments.
     pub fn is_empty(&self) -> bool
         ensures { result ≡ (length self.now == 0) }
     {
         self.words.is_empty()
     }
 
-    /// The word at a place, counted from 0.
+    /// The argument at a place, from 0.
     pub fn word(&self, place: usize) -> &str
         requires { place < length self.now }
         ensures { slice_get self.now place ≡ Some result.now }
