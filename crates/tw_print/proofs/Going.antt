@@ -15,12 +15,12 @@ on_then taken faults a b c Going Broken Going xs ys first next = absurd next
 on_then taken faults a b c Broken Going r xs ys first next = absurd first
 on_then taken faults a b c Broken Broken Going xs ys first next = absurd next
 
--- one text, and another behind it
+-- one text, then another
 pub goes_then : {K : Type 0} {taken : K → Option (List ℕ)} {faults : K → ℕ} {a b c : K} {p q r : Progress} {xs ys : List ℕ} →
     Goes taken faults a b p q xs → Goes taken faults b c q r ys → Goes taken faults a c p r (xs ++ ys)
 goes_then first next = record { on = on_then _ _ _ _ _ _ _ _ _ _ first.on next.on }
 
--- nothing is printed
+-- the empty text
 pub goes_none : {K : Type 0} (taken : K → Option (List ℕ)) (faults : K → ℕ) (a : K) (p : Progress) → Goes taken faults a a p p []
 goes_none taken faults a Going = record { on = record { whole = appends_nothing (taken a); steady = refl } }
 goes_none taken faults a Broken = record { on = refl }

@@ -1,4 +1,4 @@
--- The names and numbers of a text's tokens are those that a text can have.
+-- The identifiers and numbers among a text's tokens are ones that some text has.
 use Rattle.std.proofs.Common.{◌≡◌, sym, subst, ℕ, true, List, [], ◌∷◌, ◌++◌, Option, Some, None, chars, IsUtf8, refl}
 use Rattle.std.proofs.Math.Utf8.{scalar, scalars}
 use Rattle.std.proofs.lemmas.Bool.{and_parts}
@@ -20,13 +20,13 @@ scalar_parts (c ∷ cs) ds h =
     let rest = scalar_parts cs ds both.1 in
     (rw (both.0) rest.0, rest.1)
 
--- letters that are no keyword are a name
+-- letters that are no keyword are an identifier
 good_letters : (c : ℕ) (cs : List ℕ) (found : Option Symbol) → symbol_of (c ∷ cs) ≡ found → scalars (c ∷ cs) ≡ true → starts_name c ≡ true → list_all is_xid_continue cs ≡ true
     → IsGood (word_lexeme found (c ∷ cs))
 good_letters c cs (Some symbol) is scalar starts on = tt
 good_letters c cs None is scalar starts on = record { first = c; more = cs; scalar = scalar; is = refl; starts = starts; goes_on = on; no_keyword = is }
 
--- the lexemes of a piece's tokens, and of those behind it
+-- the lexemes of a piece's tokens, and of those after it
 good_first : (p : Piece) (rest : List ℕ) (at : Pos) (more : List Lexed) → scalars (piece_text p) ≡ true → Stands p rest → AllGood more → AllGood (piece_tokens p at ++ more)
 good_first (Blank c) rest at more scalar stands behind = behind
 good_first (Comment cs) rest at more scalar stands behind = behind

@@ -6,7 +6,7 @@ use Rattle.tw_print.specs.Programs.{indent}
 use Rattle.tw_print.specs.declared.progress.Progress.{Progress}
 use Rattle.tw_print.proofs.Going.{goes_none}
 
--- the item at a place, and those behind it
+-- the item at a position, and those after it
 pub next_item : {X K : Type 0} {taken : K → Option (List ℕ)} {faults : K → ℕ} {a b : K} {p q : Progress} (view : List X → List ℕ) (xs : List X) (i : ℕ) (d : X)
     → i < length xs → Goes taken faults a b p q (view (get_or xs i d ∷ drop (i + 1) xs)) → Goes taken faults a b p q (view (drop i xs))
 next_item view xs i d inside goes = rw (drop_more xs i d inside) goes
@@ -15,12 +15,12 @@ first_is : {X : Type 0} (xs : List X) (d : X) → 1 ≤ length xs → xs ≡ get
 first_is [] d some = absurd (omega arith)
 first_is (x ∷ xs) d some = ap (λ ys. x ∷ ys) (sym (take_all (suc (length xs) - 1) xs (omega arith)))
 
--- the first item, and those behind it
+-- the first item, and those after it
 pub first_item : {X K : Type 0} {taken : K → Option (List ℕ)} {faults : K → ℕ} {a b : K} {p q : Progress} (view : List X → List ℕ) (xs : List X) (d : X)
     → 1 ≤ length xs → Goes taken faults a b p q (view (get_or xs 0 d ∷ take (length xs - 1) (drop 1 xs))) → Goes taken faults a b p q (view xs)
 first_item view xs d some goes = rw (first_is xs d some) goes
 
--- the spaces of one brace, and those that are left
+-- the spaces of one brace, and those that remain
 pub next_indent : {K : Type 0} {taken : K → Option (List ℕ)} {faults : K → ℕ} {a b : K} {p q : Progress} (depth i : ℕ)
     → i < depth → Goes taken faults a b p q (codes "  " ++ indent (depth - (i + 1))) → Goes taken faults a b p q (indent (depth - i))
 next_indent depth i inside goes =

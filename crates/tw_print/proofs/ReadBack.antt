@@ -26,7 +26,7 @@ leads_nothing = record {
   ends = rw chars-nil refl;
 }
 
--- what the printed form of a tree of the grammar reads as
+-- what the printed form of a tree of the grammar is parsed as
 form_leads : (form : ProgramForm) → AllGood (program_text form []) → Leads Clear (program_print (record { decls = decls_tree form })) (program_text form [])
 form_leads form good =
     subst (λ (bytes : List ℕ). Leads Clear bytes (program_text form [])) (append-nil (program_print (record { decls = decls_tree form }))) ((decls_spelt form).leads good [] leads_nothing)

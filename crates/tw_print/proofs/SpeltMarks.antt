@@ -1,4 +1,4 @@
--- Marks, words, names, numbers and white space spell what they are.
+-- Operators, keywords, identifiers, numbers and white space spell their tokens.
 use Rattle.std.proofs.Common.{◌≡◌, ◌∙◌, sym, ap, ℕ, ◌≤◌, ◌<◌, ◌^◌, ◌==◌, Bool, true, false, not, ◌||◌, ◌&&◌, if◌then◌else◌, List, [], ◌∷◌, ◌++◌, length, Option, Some, codes, decimal, encode_utf8_all, refl, arith}
 use Rattle.std.proofs.Math.Utf8.{scalars, encode}
 use Rattle.std.proofs.lemmas.Bool.{and_parts}
@@ -19,7 +19,7 @@ use Rattle.tw_lex.proofs.SymbolTexts.{symbol_of-text}
 use Rattle.tw_print.proofs.Spelling.{Edge, Clear, Wordy, Short, bars, IsName, Spelt, ends_clear}
 use Rattle.tw_print.proofs.SpeltPieces.{Fits, spelt_blank, leads_token}
 
--- what may follow a mark or a word
+-- what may follow an operator or a keyword
 abbrev pub edge_of : Symbol → Edge
 edge_of symbols.Assign = Short
 edge_of symbols.Less = Short
@@ -27,13 +27,13 @@ edge_of symbols.Define = Short
 edge_of symbols.Minus = Short
 edge_of mark = if is_keyword mark then Wordy else Clear
 
--- whether it stands behind an edge
+-- whether the symbol may follow an edge
 abbrev pub enters : Edge → Symbol → Bool
 enters Clear mark = true
 enters Wordy mark = not (is_keyword mark)
 enters Short mark = starts_with (λ c. not (bars Short c)) (symbol_text mark)
 
--- it as a piece
+-- the symbol as a piece
 abbrev letters : List ℕ → Piece
 letters [] = Blank 32
 letters (c ∷ cs) = Letters c cs
@@ -41,7 +41,7 @@ letters (c ∷ cs) = Letters c cs
 abbrev mark_piece : Symbol → Piece
 mark_piece mark = if is_keyword mark then letters (symbol_text mark) else Operator mark
 
--- whether another mark, where it begins here, is no longer than this one, since such characters do not follow
+-- whether another operator that begins here is no longer than this one, as such characters may not follow
 abbrev is_no_longer : (ℕ → Bool) → List ℕ → List ℕ → Bool
 is_no_longer barred [] [] = true
 is_no_longer barred [] (c ∷ cs) = barred c
@@ -58,7 +58,7 @@ no_longer barred (x ∷ xs) (y ∷ ys) rest more none ends e =
     let shorter = no_longer barred xs ys rest more (rw ((Decides-eqb x y).1 head) at none) ends tails in
     omega (arith, shorter)
 
--- whether a piece stands in front of whatever may follow the edge
+-- whether a piece is a lexeme before every suffix that may follow the edge
 abbrev checks : Edge → Piece → Bool
 checks edge (Operator symbol) = not (is_keyword symbol) && list_all (λ other. is_no_longer (bars edge) (symbol_text symbol) (symbol_text other)) all_symbols
 checks Wordy (Letters c cs) = starts_name c && list_all is_xid_continue cs
@@ -67,7 +67,7 @@ checks edge piece = false
 no_keyword : (symbol : Symbol) → not (is_keyword symbol) ≡ true → is_keyword symbol ≡ false
 no_keyword symbol h = elim (is_keyword symbol) as (λ k. not k ≡ true → k ≡ false) [ true ↦ λ e. absurd (cc) | false ↦ λ e. refl ] h
 
--- what all symbols of a list pass
+-- a test that holds of all symbols of a list holds of the one found
 listed_passes : (test : Symbol → Bool) (list : List Symbol) (other : Symbol) (text : List ℕ) → list_all test list ≡ true → find_symbol list text ≡ Some other → test other ≡ true
 listed_passes test [] other text all found = absurd (cc)
 listed_passes test (symbol ∷ list) other text all found =
@@ -107,7 +107,7 @@ unfolding symbol_of
 mark_lexeme symbols.Swap = refl
 mark_lexeme mark = refl
 
--- a character at the front that is not barred
+-- the first character is not barred
 front_free : (test : ℕ → Bool) (cs rest : List ℕ) → starts_with (λ c. not (test c)) cs ≡ true → Ends test (cs ++ rest)
 front_free test [] rest h = absurd (cc)
 front_free test (c ∷ cs) rest h = elim (test c) as (λ k. not k ≡ true → k ≡ false) [ true ↦ λ e. absurd (cc) | false ↦ λ e. refl ] h
@@ -127,7 +127,7 @@ mark_enters Wordy mark rest h = front_free (bars Wordy) (piece_text (mark_piece 
 mark_enters Short mark rest h =
     front_free (bars Short) (piece_text (mark_piece mark)) rest (ap (starts_with (λ c. not (bars Short c))) (mark_same mark) ∙ h)
 
--- a mark or a word
+-- an operator or a keyword
 pub sign : {a : Edge} {p : Pos} {us : List Lexed} (mark : Symbol) → enters a mark ≡ true → Spelt a (edge_of mark) (symbol_text mark) (sign_at mark p ∷ us) us
 sign {a} {p} mark h = record {
   good = λ g. g.1;
@@ -139,7 +139,7 @@ sign {a} {p} mark h = record {
   }) l;
 }
 
--- whether a name stands behind an edge
+-- whether an identifier may follow an edge
 abbrev pub enters_name : Edge → Bool
 enters_name Wordy = false
 enters_name edge = true
@@ -169,7 +169,7 @@ name_fits {a} h n = record {
 name_lexeme : {text : List ℕ} (n : IsName text) → piece_lexeme (Letters n.first n.more) ≡ Some (Name text)
 name_lexeme {text} n = ap (λ (found : Option Symbol). Some (word_lexeme found (n.first ∷ n.more))) n.no_keyword ∙ ap (λ (x : List ℕ). Some (Name x)) n.is
 
--- a name
+-- an identifier
 pub name : {a : Edge} {p : Pos} {us : List Lexed} (text : List ℕ) → enters_name a ≡ true → Spelt a Wordy text (name_at text p ∷ us) us
 name {p = p} text h = record {
   good = λ g. g.1;

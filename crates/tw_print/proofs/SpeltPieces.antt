@@ -1,4 +1,4 @@
--- A piece in front of a text: what it adds to the text's tokens.
+-- A piece before a text: what it adds to the text's tokens.
 use Rattle.std.proofs.Common.{◌≡◌, ◌∙◌, sym, ap, subst, ℕ, true, List, ◌∷◌, ◌++◌, Option, Some, None, chars, encode_utf8_all, refl}
 use Rattle.std.proofs.Math.Utf8.{scalars}
 use Rattle.std.proofs.lemmas.Str.{chars-append, chars-encodes, IsUtf8-append}
@@ -7,7 +7,7 @@ use Rattle.tw_text.specs.Places.{after_chars}
 use Rattle.tw_lex.specs.Tokens.{Lexeme, Lexed, Piece, piece_text, piece_lexeme, token_of, Stands, Ends}
 use Rattle.tw_print.proofs.Spelling.{Edge, bars, ReadAt, Leads, Spelt}
 
--- a piece with these bytes, which stands behind edge `a` and in front of what may follow edge `b`
+-- a piece with these bytes that may follow edge `a`, and is a lexeme before what may follow edge `b`
 pub record Fits (a b : Edge) (piece : Piece) (bytes : List ℕ) : Type 0 where
   pub scalar : scalars (piece_text piece) ≡ true
   pub is : encode_utf8_all (piece_text piece) ≡ bytes
@@ -27,7 +27,7 @@ read_blank p rest toks at none stands r = record {
   same = r.same;
 }
 
--- any other piece adds one
+-- any other piece adds one token
 read_token : (p : Piece) (t : Lexed) (rest : List ℕ) (toks : List Lexed) (at : Pos) → piece_lexeme p ≡ Some t.lexeme
     → Stands p rest → ReadAt rest (after_chars at (piece_text p)) toks → ReadAt (piece_text p ++ rest) at (t ∷ toks)
 read_token p t rest toks at some stands r = record {
@@ -44,7 +44,7 @@ chars_front : (cs bytes rest : List ℕ) → scalars cs ≡ true → encode_utf8
 chars_front cs bytes rest scalar is =
     chars-append bytes rest (cs, (scalar, is)) ∙ ap (λ xs. xs ++ chars rest) (ap chars (sym is) ∙ chars-encodes cs scalar)
 
--- a text behind a piece, by how its characters read
+-- a text after a piece, by how its characters are tokenised
 leads_behind : {a b : Edge} {p : Piece} {bytes rest : List ℕ} {ts us : List Lexed} → Fits a b p bytes → Leads b rest us
     → ((at : Pos) → ReadAt (piece_text p ++ chars rest) at ts) → Leads a (bytes ++ rest) ts
 leads_behind {a} {b} {p} {bytes} {rest} {ts} f l read =

@@ -1,4 +1,4 @@
--- How statements, functions and programs are printed: each statement on lines of its own, two spaces deeper per brace.
+-- The printed form of statements, functions and programs: each statement is on its own lines, two spaces deeper per brace.
 use Rattle.std.specs.Prelude.{◌≡◌, ℕ, zero, suc, ◌+◌, ◌-◌, ◌^◌, min, Bool, true, if◌then◌else◌, List, [], ◌∷◌, ◌++◌, Option, Some, None, codes, refl}
 use Rattle.tw_text.specs.declared.place.Pos.{Pos}
 use Rattle.tw_syntax.specs.Names.{NameTree, PathTree}
@@ -8,7 +8,7 @@ use Rattle.tw_syntax.specs.Types.{UnitType}
 use Rattle.tw_syntax.specs.Programs.{ParamTree, FunTree, AliasTree, DeclTree, AliasDecl, FunDecl, ProgramTree}
 use Rattle.tw_print.specs.Terms.{type_print, path_print, rhs_print}
 
--- one brace deeper; the depth stays at the greatest number of 64 bits
+-- one brace deeper; the depth saturates at the greatest number of 64 bits
 abbrev pub deeper : ℕ → ℕ
 deeper depth = min (depth + 1) (2 ^ 64 - 1)
 
@@ -68,7 +68,7 @@ abbrev pub head_print : FunTree → List ℕ
 head_print fun =
     codes "fun " ++ (fun.name.text ++ (fun_bound_print fun.bound ++ (codes "(" ++ (params_print fun.params ++ (codes ") -> " ++ (type_print fun.result ++ codes " {\n"))))))
 
--- its last two lines
+-- the last two lines of a function
 abbrev pub return_print : NameTree → List ℕ
 return_print returned = codes "  return " ++ (returned.text ++ codes ";\n}\n")
 

@@ -1,4 +1,4 @@
--- Printing piece by piece, where all that comes behind a fault is left out.
+-- Printing piece by piece; pieces after a fault are left out.
 use Rattle.std.specs.Prelude.{◌≡◌, ℕ, List, Option, Result, Ok, Err}
 use Rattle.tw_io.specs.Devices.{Rose, Appends, AppendsPrefix}
 use Rattle.tw_io.specs.declared.device.WriteFault.{WriteFault}
@@ -21,11 +21,11 @@ GoesOn taken faults old new Going Broken text = Failed taken faults old new text
 GoesOn taken faults old new Broken Broken text = new ≡ old
 GoesOn taken faults old new Broken Going text = ⊥
 
--- what a call that prints a text did, from how the printing stood to how it stands
+-- what a call that prints a text did, from the progress before and after it
 pub record Goes {K : Type 0} (taken : K → Option (List ℕ)) (faults : K → ℕ) (old new : K) (before after : Progress) (text : List ℕ) : Type 0 where
   pub on : GoesOn taken faults old new before after text
 
--- how the printing stands behind a write
+-- the progress after a write
 abbrev pub progress_after : Result (Unit {0}) WriteFault → Progress
 progress_after (Ok written) = Going
 progress_after (Err fault) = Broken

@@ -1,4 +1,4 @@
--- How types, paths, expressions and right sides are printed.
+-- The printed form of types, paths, expressions and right sides.
 use Rattle.std.specs.Prelude.{◌≡◌, ℕ, List, [], ◌∷◌, ◌++◌, Option, Some, None, codes, decimal, refl}
 use Rattle.std.specs.Fmt.{digits}
 use Rattle.tw_text.specs.declared.place.Pos.{Pos}
@@ -59,12 +59,12 @@ bound_print (FixedBound number) = decimal number
 bound_print (SameBound name) = name.text
 bound_print (LessBound name number) = name.text ++ (codes " - " ++ decimal number)
 
--- in brackets, where there is one
+-- the bound in brackets, if there is one
 abbrev pub call_bound_print : Option BoundTree → List ℕ
 call_bound_print None = []
 call_bound_print (Some bound) = codes "[" ++ (bound_print bound ++ codes "]")
 
--- names, each but the first behind a comma
+-- the names after the first, each preceded by a comma
 abbrev pub more_names_print : List NameTree → List ℕ
 more_names_print [] = []
 more_names_print (name ∷ names) = codes ", " ++ (name.text ++ more_names_print names)

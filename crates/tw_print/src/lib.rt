@@ -1,5 +1,5 @@
-//! The printed form of programs: the one text in which each program is written.
-//! The definitions of `specs/` say what is printed for each tree, and `proofs/` join the pieces.
+//! The printed form of programs: the one text in which each program is printed.
+//! The definitions of `specs/` give the printed form of each tree, and `proofs/` join the pieces.
 #![tactic(auto)]
 
 mod programs;

@@ -118,8 +118,8 @@ fn print_decls<K: Sink>(sink: &mut K, progress: Progress, decls: &[Decl]) -> Pro
     progress
 }
 
-/// Prints a program. It takes no memory. A fault: the sink took a front of the text.
-/// What is printed of a source's program reads back as that program, places aside.
+/// Prints a program. Does not allocate. A fault: the sink took a prefix of the text.
+/// The printed form of a source's program is parsed as the same program, but for places.
 pub fn print_program<K: Sink>(program: &Program, sink: &mut K) -> Result<(), WriteFault>
     ensures wrote { Wrote K.taken K.faults sink.old sink.new result (program_print (program_tree program.now)) }
     ensures read_back { (source : List ℕ) → IsSource source (program_tree program.now) → ReadsBack (program_tree program.now) }

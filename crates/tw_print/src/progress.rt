@@ -5,10 +5,10 @@ ghost use Rattle.tw_print.specs.Progress.{Goes, progress_after};
 
 use tw_io::{Sink, WriteFault, write_all, write_decimal};
 
-/// How the printing stands.
+/// How far the printing has come.
 #[derive(Debug, Clone, Copy, PartialEq, Eq)]
 pub enum Progress {
-    /// All so far was taken.
+    /// The sink took all pieces so far.
     Going,
     /// The sink failed, and nothing more is written.
     Broken,

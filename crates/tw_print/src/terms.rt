@@ -13,7 +13,7 @@ use crate::types::{print_path, print_type};
 use tw_io::Sink;
 use tw_syntax::{Atom, AtomKind, Bound, Expr, ExprKind, Name, OpKind, Rhs, Written};
 
-/// Prints a type in angle brackets, behind a word.
+/// Prints a type in angle brackets, after a keyword.
 fn print_angled<K: Sink>(sink: &mut K, progress: Progress, word: &str, ty: &Written) -> Progress
     ensures { Goes K.taken K.faults sink.old sink.new progress result (word.now ++ (type_print (written_tree ty.now) ++ codes ">")) }
 {
@@ -127,7 +127,7 @@ fn print_names<K: Sink>(sink: &mut K, progress: Progress, names: &[Name]) -> Pro
     }
 }
 
-/// Prints what stands at the right of a `let`.
+/// Prints the right side of a `let`.
 pub fn print_rhs<K: Sink>(sink: &mut K, progress: Progress, rhs: &Rhs) -> Progress
     ensures { Goes K.taken K.faults sink.old sink.new progress result (rhs_print (rhs_tree rhs.now)) }
 {

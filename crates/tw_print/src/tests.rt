@@ -1,3 +1,4 @@
+//! The printed form of each construct, parsed again; and a sink that fails.
 use crate::print_program;
 use bumpalo::Bump;
 use std::test::*;
