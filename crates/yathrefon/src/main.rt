@@ -1,4 +1,4 @@
-//! The program: the top call on standard input and standard output.
+//! The program: the top call on the command-line arguments, standard input and standard output.
 #![tactic(auto)]
 
 use std::alloc::AllocError;
@@ -22,7 +22,7 @@ usage: yathrefon COMMAND [OPTION..]    the input is read from standard input, th
   invert     print the inverse of a gate file
 ";
 
-/// The command-line arguments. If one is invalid UTF-8, the list is empty, which is no command either.
+/// The command-line arguments. If one is invalid UTF-8, the list is empty, which is no command.
 fn arguments(rt: &HostRuntime) -> Result<Words, AllocError> {
     let mut words = Words::new(rt.alloc());
     let arguments = match env::args(rt) {
