@@ -15,3 +15,4 @@ pub mod Compiles
 pub mod AfterFiles
 pub mod Doing
 pub mod Promises
+pub mod Worked
