@@ -1,5 +1,5 @@
 -- Pieces after the pieces of a text.
-use Rattle.std.proofs.Common.{◌≡◌, ◌≢◌, ◌∙◌, ap, sym, subst, ℕ, ◌+◌, ◌<◌, ◌==◌, true, false, List, [], ◌∷◌, ◌++◌, append_assoc, length, length-append, codes, Option, Some, None, refl, arith}
+use Rattle.std.proofs.Common.{◌≡◌, ◌≢◌, ◌∙◌, ap, sym, subst, ℕ, ◌+◌, ◌<◌, true, List, [], ◌∷◌, ◌++◌, append_assoc, length, codes, Option, refl, arith}
 use mathlib.Core.List.{append-nil}
 use Rattle.std.specs.List.{list_all, AllByRecursion}
 use Rattle.std.specs.Str.{chars, IsUtf8}
@@ -8,8 +8,8 @@ use Rattle.tw_text.specs.declared.place.Pos.{Pos}
 use Rattle.tw_text.specs.Places.{after_chars}
 use Rattle.tw_text.specs.Cuts.{Begins, Follows}
 use Rattle.tw_lex.specs.declared.token.TokenKind.{TokenKind}
-use Rattle.tw_lex.specs.Tokens.{Lexeme, Lexed, Piece, Blank, Comment, piece_text, piece_lexeme, piece_tokens, token_of, is_blank, is_in_line, Ends, Stands, Splits, HasTokens, StopsAt}
-use Rattle.tw_lex.specs.Scans.{Found, Lacks, RunsTo, SplitsTo, lexeme_of, IsKind}
+use Rattle.tw_lex.specs.Tokens.{Lexeme, Lexed, Piece, Blank, Comment, piece_text, piece_tokens, token_of, is_blank, is_in_line, Ends, Stands, Splits, HasTokens, StopsAt}
+use Rattle.tw_lex.specs.Scans.{Found, RunsTo, SplitsTo, lexeme_of, IsKind}
 use Rattle.tw_lex.proofs.Classes.{heads, apart}
 use Rattle.tw_lex.proofs.Lines.{after_line}
 use Rattle.tw_lex.proofs.Pieces.{chars-slashes}

@@ -1,7 +1,5 @@
 -- What the scanning functions find is a piece, and where they find none no piece of its sort stands.
-use Rattle.std.proofs.Common.{◌≡◌, ◌∙◌, ap, sym, subst, ℕ, ◌+◌, ◌<◌, ◌≤◌, ◌^◌, ◌==◌, Bool, true, false, if◌then◌else◌, List, [], ◌∷◌, ◌++◌, append_assoc, length, length-append, get_or, codes, decimal, Option, Some, None, refl, arith}
-use Rattle.std.proofs.lemmas.Bool.{and_parts}
-use Rattle.std.specs.List.{list_all}
+use Rattle.std.proofs.Common.{◌≡◌, ◌∙◌, ap, sym, ℕ, ◌+◌, ◌<◌, ◌^◌, Bool, true, false, List, [], ◌∷◌, ◌++◌, append_assoc, length, length-append, codes, decimal, Option, Some, None, refl, arith}
 use Rattle.std.specs.Option.{IfNone}
 use Rattle.std.specs.Char.{is_ascii_digit}
 use Rattle.std.specs.Str.{chars, IsUtf8, encode_utf8_all, all_ascii_digits}
@@ -12,15 +10,14 @@ use Rattle.std.proofs.lemmas.Fmt.{digits_decimal, IsAscii-decimal}
 use Rattle.unicode_ident.specs.Ident.{is_xid_continue}
 use Rattle.tw_text.specs.Cuts.{Begins, Follows}
 use Rattle.tw_text.proofs.Cuts.{ends_with_both}
-use Rattle.tw_lex.specs.declared.token.TokenKind.{TokenKind}
 use Rattle.tw_lex.specs.declared.token.TokenKind.TheVariants as kind
 use Rattle.tw_lex.specs.declared.symbol.Symbol.{Symbol}
 use Rattle.tw_lex.specs.Symbols.{symbol_text, symbol_of, all_symbols, is_keyword, starts_with, symbols_from, find_front}
 use Rattle.tw_lex.specs.Tokens.{Piece, Blank, Comment, Letters, Digits, Operator, piece_text, word_lexeme, is_blank, is_in_line, starts_name, Stands, Ends}
-use Rattle.tw_lex.specs.Scans.{Found, Lacks, Runs, RunsTo, lexeme_of, word_kind, IsKind}
+use Rattle.tw_lex.specs.Scans.{Found, Lacks, RunsTo, lexeme_of, word_kind, IsKind}
 use Rattle.tw_lex.proofs.Runs.{same_run}
 use Rattle.tw_lex.proofs.Lines.{in_line, name-in_line}
-use Rattle.tw_lex.proofs.Classes.{Heads, heads, ends-digits, class, class-digit, no_class_digit, sort}
+use Rattle.tw_lex.proofs.Classes.{heads, ends-digits, class, class-digit, no_class_digit, sort}
 use Rattle.tw_lex.proofs.SymbolTexts.{chars-symbol, encodes-symbol, symbol-in_line, keyword-starts, find_symbol-text, find_front-longest, find_front-none}
 
 pub chars-slashes : chars (codes "//") ≡ codes "//"

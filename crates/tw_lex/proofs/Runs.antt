@@ -1,5 +1,5 @@
 -- Runs of characters that pass a test.
-use Rattle.std.proofs.Common.{◌≡◌, ◌∙◌, ap, sym, ℕ, Bool, true, ◌+◌, List, [], ◌∷◌, ◌++◌, append_assoc, length, length-append, refl, arith}
+use Rattle.std.proofs.Common.{◌≡◌, ◌∙◌, ap, sym, ℕ, Bool, true, ◌+◌, List, [], ◌∷◌, ◌++◌, append_assoc, length-append, refl, arith}
 use Rattle.std.proofs.lemmas.Bool.{and_parts}
 use Rattle.std.specs.List.{list_all}
 use Rattle.std.specs.Str.{chars}

@@ -1,5 +1,5 @@
 -- What scanning finds at the front of a text.
-use Rattle.std.specs.Prelude.{◌≡◌, ℕ, ◌+◌, ◌<◌, ◌≤◌, Bool, true, false, List, [], ◌∷◌, ◌++◌, length, Option, Some, None, decimal, refl}
+use Rattle.std.specs.Prelude.{◌≡◌, ℕ, ◌+◌, ◌≤◌, Bool, true, false, List, ◌++◌, length, Option, Some, None, decimal, refl}
 use Rattle.std.specs.List.{list_all}
 use Rattle.std.specs.Char.{is_ascii_digit}
 use Rattle.std.specs.Str.{chars, IsUtf8}
@@ -16,7 +16,7 @@ use Rattle.tw_lex.specs.declared.symbol.Symbol.{Symbol}
 use Rattle.tw_lex.specs.declared.run.Run.{Run}
 use Rattle.tw_lex.specs.declared.run.Run.TheVariants as run
 use Rattle.tw_lex.specs.Symbols.{symbol_text, is_keyword}
-use Rattle.tw_lex.specs.Tokens.{Lexeme, Name, Number, Sign, Lexed, Piece, piece_text, piece_lexeme, Stands, Splits, HasTokens, StopsAt, Ends, is_in_line}
+use Rattle.tw_lex.specs.Tokens.{Lexeme, Name, Number, Sign, Lexed, Piece, piece_text, piece_lexeme, Stands, Splits, StopsAt, Ends, is_in_line}
 
 -- the lexeme of a token with this kind and text
 abbrev pub lexeme_of : TokenKind → List ℕ → Lexeme

@@ -1,4 +1,4 @@
-use Rattle.std.proofs.Common.{◌≡◌, ◌∙◌, ap, sym, get_or, arith}
+use Rattle.std.proofs.Common.{◌∙◌, ap, sym, get_or, arith}
 use Rattle.std.proofs.lemmas.Str.{lead_after_ascii}
 use Rattle.tw_lex.proofs.AsciiFronts.{nothing, something, ascii_begins}
 use Rattle.tw_lex.proofs.leading.leading_char.Goals as goal

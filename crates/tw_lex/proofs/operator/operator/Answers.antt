@@ -1,6 +1,4 @@
-use Rattle.std.proofs.Common.{◌∙◌, ap, sym, rules}
-use Rattle.std.specs.Str.{chars}
-use Rattle.tw_lex.specs.Symbols.{find_front}
+use Rattle.std.proofs.Common.{rules}
 use Rattle.tw_lex.proofs.Pieces.{found_operator, no_operator}
 use Rattle.tw_lex.proofs.operator.operator.Goals as goal
 

@@ -1,4 +1,4 @@
-use Rattle.std.proofs.Common.{◌∙◌, ap, sym, ◌∷◌, ◌++◌}
+use Rattle.std.proofs.Common.{◌∙◌, ap, sym, ◌∷◌}
 use Rattle.std.specs.Str.{chars}
 use Rattle.std.proofs.lemmas.List.{append_cancel_right}
 use Rattle.tw_text.proofs.Cuts.{ends_with_both}
