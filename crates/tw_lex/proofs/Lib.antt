@@ -1,5 +1,6 @@
 pub mod AsciiFronts
 pub mod Classes
+pub mod Cursors
 pub mod Endings
 pub mod Growing
 pub mod Lines

@@ -1,3 +1,5 @@
+pub mod Cursors
+pub mod Left
 pub mod Next
 pub mod Scans
 pub mod Symbols

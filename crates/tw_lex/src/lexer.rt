@@ -4,24 +4,13 @@ ghost use Rattle.std.specs.Str.{chars};
 ghost use Rattle.tw_text.specs.Places.{first_place};
 ghost use Rattle.tw_lex.specs.Scans.{seen, IsToken, IsNoToken};
 ghost use Rattle.tw_lex.specs.Tokens.{Lexed, HasTokens};
+ghost use Rattle.tw_lex.specs.Cursors.{HasCount};
 
 use crate::Token;
 use crate::next::{Next, next_token};
 use crate::suffix::Suffix;
 use std::alloc::Global;
-use tw_text::{Fault, Pos, Refusal, Rule};
-
-/// The refusal of characters at a place that begin no token.
-pub fn no_token(at: Pos) -> Refusal
-    ensures { result ≡ record { rule = Rule.Token; at = at; found = 0; limit = 0 } }
-{
-    Refusal {
-        rule: Rule::Token,
-        at,
-        found: 0,
-        limit: 0,
-    }
-}
+use tw_text::{Fault, Refusal, Rule};
 
 /// The tokens of a text, found from left to right.
 fn split<'t>(alloc: Global, text: &'t str) -> Result<Vec<Token<'t>>, Fault>
@@ -41,7 +30,27 @@ fn split<'t>(alloc: Global, text: &'t str) -> Result<Vec<Token<'t>>, Fault>
                 rest = following;
             }
             Next::End => return Ok(items),
-            Next::Wrong(at) => return Err(Fault::Refused(no_token(at))),
+            Next::Wrong(at) => return Err(Fault::Refused(Refusal::broken(Rule::Token, at))),
+        }
+    }
+}
+
+/// The number of the tokens of a text. Refused as by `tokens`.
+pub fn count_tokens(text: &str) -> Result<usize, Fault>
+    requires { length text.now < 4294967295 }
+    ensures counted { IfOk result (HasCount (chars text.now)) }
+    ensures refused { (r : Refusal) → result ≡ Err (Fault.Refused r) → IsNoToken (chars text.now) r }
+{
+    let mut count = 0;
+    let mut rest = Suffix::of(text);
+    loop {
+        match next_token(rest) {
+            Next::Token(_, following) => {
+                count += 1;
+                rest = following;
+            }
+            Next::End => return Ok(count),
+            Next::Wrong(stop) => return Err(Fault::Refused(Refusal::broken(Rule::Token, stop))),
         }
     }
 }

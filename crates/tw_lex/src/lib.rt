@@ -2,6 +2,7 @@
 //! The definitions of `specs/` say what the pieces of a text are, and `proofs/` has their laws.
 #![tactic(auto)]
 
+mod cursor;
 mod leading;
 mod lexer;
 mod next;
@@ -17,6 +18,7 @@ mod tests;
 mod token;
 mod word;
 
-pub use lexer::tokens;
+pub use cursor::Cursor;
+pub use lexer::{count_tokens, tokens};
 pub use symbol::Symbol;
 pub use token::{Token, TokenKind};

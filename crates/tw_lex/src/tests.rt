@@ -1,4 +1,4 @@
-use crate::{Symbol, TokenKind, tokens};
+use crate::{Cursor, Symbol, TokenKind, count_tokens, tokens};
 use std::test::Fail;
 use tw_text::{Fault, Pos, Refusal, Rule};
 
@@ -42,6 +42,29 @@ fn reads_names_words_marks_and_numbers(rt: HostRuntime) -> Result<(), Fail> {
         );
         assert_eq!(rt; token.kind, *kind);
     }
+    Ok(())
+}
+
+#[test]
+fn passes_the_tokens_one_by_one(rt: HostRuntime) -> Result<(), Fail> {
+    let text = "a <- // c\n 7";
+    let table = [
+        ("a", 1, TokenKind::Name),
+        ("<-", 1, TokenKind::Mark(Symbol::Assign)),
+        ("7", 2, TokenKind::Number(7)),
+    ];
+    let mut cursor = Cursor::new(text, count_tokens(text)?);
+    for (part, line, kind) in &table {
+        let Some(token) = cursor.first() else {
+            return Err("a token is left".into());
+        };
+        assert_eq!(rt; token.text, *part);
+        assert_eq!(rt; token.at.line, *line);
+        assert_eq!(rt; token.kind, *kind);
+        cursor.advance();
+    }
+    assert!(rt; cursor.first().is_none());
+    assert_eq!(rt; cursor.left(), 0);
     Ok(())
 }
 

@@ -22,5 +22,5 @@ returns-in-End-clause-tokens c =
 
 pub returns-in-Wrong-clause-refused : goal.returns-in-Wrong-clause-refused
 returns-in-Wrong-clause-refused c r e =
-    let same : c.no_token.result ≡ r = cc in
-    refused_at (chars c.args.text.now) _ r (join_stop c.loop-token.invariant.splits c.in-Wrong.ensures) (sym c.no_token.ensures ∙ same)
+    let same : c.broken.result ≡ r = cc in
+    refused_at (chars c.args.text.now) _ r (join_stop c.loop-token.invariant.splits c.in-Wrong.ensures) (sym c.broken.ensures ∙ same)
