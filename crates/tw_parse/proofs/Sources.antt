@@ -1,5 +1,5 @@
 -- What reading a source gives is what the grammar says of it.
-use Rattle.std.proofs.Common.{◌≡◌, ◌∙◌, ap, sym, subst, ℕ, ◌<◌, List, length, take, arith, Result, Ok, Err, IfOk, IfErr}
+use Rattle.std.proofs.Common.{◌≡◌, refl, ◌∙◌, ap, sym, subst, ℕ, ◌<◌, List, length, take, arith, Result, Ok, Err, IfOk, IfErr}
 use Rattle.std.proofs.Math.Seq.{take-length}
 use Rattle.std.specs.Str.{chars, IsUtf8, IsValidUpTo}
 use Rattle.tw_text.specs.declared.refusal.Refusal.{Refusal}
@@ -13,12 +13,15 @@ use Rattle.tw_lex.proofs.Endings.{one_refusal}
 use Rattle.tw_syntax.specs.Programs.{ProgramTree}
 use Rattle.tw_parse.specs.declared.error.Rejection.{Rejection}
 use Rattle.tw_parse.specs.declared.error.Rejection.TheVariants.{Syntax, Nesting}
+use Rattle.tw_parse.specs.declared.error.ParseError.{ParseError}
+use Rattle.tw_parse.specs.declared.error.ParseError.TheVariants as error
 use Rattle.tw_lex.specs.Tokens.{Lexed, HasTokens}
 use Rattle.tw_parse.specs.Trees.{HasTree}
 use Rattle.tw_parse.specs.Prefixes.{IsShallow, IsSyntaxAt, IsTooDeepAt}
 use Rattle.tw_parse.specs.reading.Statements.{whole_at}
 use Rattle.tw_parse.specs.Refusals.{IsNoText, refusal_of, end_of}
-use Rattle.tw_parse.specs.reading.Outcomes.{IsParsed, IsStopped, NoText, NoToken, Halted, IsFault}
+use Rattle.tw_parse.specs.reading.Steps.{Fails}
+use Rattle.tw_parse.specs.reading.Outcomes.{IsParsed, IsStopped, NoText, NoToken, Halted, IsFault, fault_of}
 use Rattle.tw_parse.specs.Sources.{IsNoProgram, IsTooDeep, IsSource, IsRefused, Utf8, Token, Program, Depth}
 use Rattle.tw_parse.proofs.forms.OneProgram.{tree-same}
 use Rattle.tw_parse.proofs.reading.Readings.{read-tree, read-syntax, read-nesting}
@@ -41,6 +44,11 @@ halted_at bytes refusal toks (Syntax left) text has reads is =
     Program (record { text = text; toks = toks; left = left; has = has; syntax = read-syntax toks left reads; is = is })
 halted_at bytes refusal toks (Nesting left) text has reads is =
     Depth (record { text = text; toks = toks; left = left; has = has; nesting = read-nesting toks left reads; is = is })
+
+-- a source whose tokens are wrong has no tree
+pub fault_in : (bytes : List ℕ) (stop : ParseError) (toks : List Lexed) → IsUtf8 bytes → HasTokens (chars bytes) first_place toks → Fails stop (whole_at toks) → IsFault bytes (fault_of stop toks (end_of bytes))
+fault_in bytes error.Memory toks text has reads = tt
+fault_in bytes (error.Rejection halt) toks text has reads = Halted (record { text = text; toks = toks; halt = halt; has = has; reads = reads; is = refl })
 
 pub refused_of : (bytes : List ℕ) (refusal : Refusal) → IsStopped bytes refusal → IsRefused bytes refusal
 refused_of bytes refusal (NoText n) = Utf8 n

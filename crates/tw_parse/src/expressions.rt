@@ -1,44 +1,44 @@
 //! Expressions.
 
-ghost use Rattle.std.specs.Prelude.{◌≡◌, suc, drop};
+ghost use Rattle.std.specs.Prelude.{◌≡◌, suc};
 ghost use Rattle.tw_syntax.specs.Terms.{atom_tree, expr_tree};
-ghost use Rattle.tw_parse.specs.reading.Steps.{toks};
+ghost use Rattle.tw_lex.specs.Left.{left_of};
 ghost use Rattle.tw_parse.specs.reading.Steps.{Returns};
 ghost use Rattle.tw_parse.specs.reading.Terms.{op_of, op_at, not_at, two_at, paren_expr_at, op_expr_at, expr_at};
 
 use crate::atoms::atom;
 use crate::error::ParseError;
-use crate::take::{leads, pass, place, take_open, take_symbol};
-use tw_lex::{Symbol, Token};
+use crate::take::{leads, place, take_open, take_symbol};
+use tw_lex::{Cursor, Symbol};
 use tw_syntax::{Atom, AtomKind, Expr, ExprKind, OpKind};
 use tw_text::{Arena, Pos};
 
 /// The operator that stands here.
-fn operator(tokens: &[Token<'_>], at: usize) -> Option<OpKind>
-    ensures { result ≡ op_of (drop at (toks tokens.now)) }
+fn operator(cursor: &Cursor<'_>) -> Option<OpKind>
+    ensures { result ≡ op_of (left_of cursor.now) }
 {
-    if leads(Symbol::Plus, tokens, at) {
+    if leads(Symbol::Plus, cursor) {
         return Some(OpKind::Add);
     }
-    if leads(Symbol::Minus, tokens, at) {
+    if leads(Symbol::Minus, cursor) {
         return Some(OpKind::Sub);
     }
-    if leads(Symbol::Star, tokens, at) {
+    if leads(Symbol::Star, cursor) {
         return Some(OpKind::Mul);
     }
-    if leads(Symbol::Less, tokens, at) {
+    if leads(Symbol::Less, cursor) {
         return Some(OpKind::Lt);
     }
-    if leads(Symbol::Equal, tokens, at) {
+    if leads(Symbol::Equal, cursor) {
         return Some(OpKind::Eq);
     }
-    if leads(Symbol::NotEqual, tokens, at) {
+    if leads(Symbol::NotEqual, cursor) {
         return Some(OpKind::Ne);
     }
-    if leads(Symbol::And, tokens, at) {
+    if leads(Symbol::And, cursor) {
         return Some(OpKind::And);
     }
-    if leads(Symbol::Or, tokens, at) {
+    if leads(Symbol::Or, cursor) {
         return Some(OpKind::Or);
     }
     None
@@ -50,20 +50,19 @@ fn operation<'a>(
     arena: &'a Arena,
     place: Pos,
     left: Atom<'a>,
-    tokens: &[Token<'a>],
-    at: &mut usize,
+    cursor: &mut Cursor<'a>,
     room: u32,
 ) -> Result<Expr<'a>, ParseError>
-    ensures { Returns (λ x. (expr_tree x, drop at.new (toks tokens.now))) result (op_at place (atom_tree left.entry) room (drop at.old (toks tokens.now))) }
+    ensures { Returns (λ x. (expr_tree x, left_of cursor.new)) result (op_at place (atom_tree left.entry) room (left_of cursor.old)) }
 {
-    match operator(tokens, *at) {
+    match operator(cursor) {
         None => Ok(Expr {
             at: place,
             kind: ExprKind::One(left),
         }),
         Some(op) => {
-            pass(tokens, at);
-            let right = atom(arena, tokens, at, room)?;
+            cursor.advance();
+            let right = atom(arena, cursor, room)?;
             Ok(Expr {
                 at: place,
                 kind: ExprKind::Op(op, left, right),
@@ -76,14 +75,13 @@ fn operation<'a>(
 #[tactic(auto, unfolding(crate::specs::reading::Terms::not_at))]
 fn negation<'a>(
     arena: &'a Arena,
-    tokens: &[Token<'a>],
-    at: &mut usize,
+    cursor: &mut Cursor<'a>,
     room: u32,
 ) -> Result<Expr<'a>, ParseError>
-    ensures { Returns (λ x. (expr_tree x, drop at.new (toks tokens.now))) result (not_at room (drop at.old (toks tokens.now))) }
+    ensures { Returns (λ x. (expr_tree x, left_of cursor.new)) result (not_at room (left_of cursor.old)) }
 {
-    let place = take_symbol(Symbol::Not, tokens, at)?;
-    let negated = atom(arena, tokens, at, room)?;
+    let place = take_symbol(Symbol::Not, cursor)?;
+    let negated = atom(arena, cursor, room)?;
     Ok(Expr {
         at: place,
         kind: ExprKind::Not(negated),
@@ -95,16 +93,15 @@ fn negation<'a>(
 fn two<'a>(
     arena: &'a Arena,
     place: Pos,
-    tokens: &[Token<'a>],
-    at: &mut usize,
+    cursor: &mut Cursor<'a>,
     room: u32,
 ) -> Result<Expr<'a>, ParseError>
-    ensures { Returns (λ x. (expr_tree x, drop at.new (toks tokens.now))) result (two_at place (suc room) (drop at.old (toks tokens.now))) }
+    ensures { Returns (λ x. (expr_tree x, left_of cursor.new)) result (two_at place (suc room) (left_of cursor.old)) }
 {
-    let first = atom(arena, tokens, at, room)?;
-    take_symbol(Symbol::Comma, tokens, at)?;
-    let second = atom(arena, tokens, at, room)?;
-    take_symbol(Symbol::CloseParen, tokens, at)?;
+    let first = atom(arena, cursor, room)?;
+    take_symbol(Symbol::Comma, cursor)?;
+    let second = atom(arena, cursor, room)?;
+    take_symbol(Symbol::CloseParen, cursor)?;
     Ok(Expr {
         at: place,
         kind: ExprKind::Two(first, second),
@@ -113,56 +110,45 @@ fn two<'a>(
 
 /// An expression that begins with `(`.
 #[tactic(auto, unfolding(crate::specs::reading::Terms::paren_expr_at))]
-fn paren<'a>(
-    arena: &'a Arena,
-    tokens: &[Token<'a>],
-    at: &mut usize,
-    room: u32,
-) -> Result<Expr<'a>, ParseError>
-    ensures { Returns (λ x. (expr_tree x, drop at.new (toks tokens.now))) result (paren_expr_at room (drop at.old (toks tokens.now))) }
+fn paren<'a>(arena: &'a Arena, cursor: &mut Cursor<'a>, room: u32) -> Result<Expr<'a>, ParseError>
+    ensures { Returns (λ x. (expr_tree x, left_of cursor.new)) result (paren_expr_at room (left_of cursor.old)) }
 {
-    let place = take_open(Symbol::OpenParen, room, tokens, at)?;
-    if leads(Symbol::CloseParen, tokens, *at) {
-        take_symbol(Symbol::CloseParen, tokens, at)?;
+    let place = take_open(Symbol::OpenParen, room, cursor)?;
+    if leads(Symbol::CloseParen, cursor) {
+        take_symbol(Symbol::CloseParen, cursor)?;
         let left = Atom {
             at: place,
             kind: AtomKind::Unit,
         };
-        return operation(arena, place, left, tokens, at, room);
+        return operation(arena, place, left, cursor, room);
     }
-    two(arena, place, tokens, at, room - 1)
+    two(arena, place, cursor, room - 1)
 }
 
 /// An atom, or two with an operator.
 #[tactic(auto, unfolding(crate::specs::reading::Terms::op_expr_at))]
-fn atoms<'a>(
-    arena: &'a Arena,
-    tokens: &[Token<'a>],
-    at: &mut usize,
-    room: u32,
-) -> Result<Expr<'a>, ParseError>
-    ensures { Returns (λ x. (expr_tree x, drop at.new (toks tokens.now))) result (op_expr_at room (drop at.old (toks tokens.now))) }
+fn atoms<'a>(arena: &'a Arena, cursor: &mut Cursor<'a>, room: u32) -> Result<Expr<'a>, ParseError>
+    ensures { Returns (λ x. (expr_tree x, left_of cursor.new)) result (op_expr_at room (left_of cursor.old)) }
 {
-    let place = place(tokens, *at)?;
-    let left = atom(arena, tokens, at, room)?;
-    operation(arena, place, left, tokens, at, room)
+    let place = place(cursor)?;
+    let left = atom(arena, cursor, room)?;
+    operation(arena, place, left, cursor, room)
 }
 
 /// An expression, in which so many brackets may open.
 #[tactic(auto, unfolding(crate::specs::reading::Terms::expr_at))]
 pub fn expr<'a>(
     arena: &'a Arena,
-    tokens: &[Token<'a>],
-    at: &mut usize,
+    cursor: &mut Cursor<'a>,
     room: u32,
 ) -> Result<Expr<'a>, ParseError>
-    ensures { Returns (λ x. (expr_tree x, drop at.new (toks tokens.now))) result (expr_at room (drop at.old (toks tokens.now))) }
+    ensures { Returns (λ x. (expr_tree x, left_of cursor.new)) result (expr_at room (left_of cursor.old)) }
 {
-    if leads(Symbol::Not, tokens, *at) {
-        return negation(arena, tokens, at, room);
+    if leads(Symbol::Not, cursor) {
+        return negation(arena, cursor, room);
     }
-    if leads(Symbol::OpenParen, tokens, *at) {
-        return paren(arena, tokens, at, room);
+    if leads(Symbol::OpenParen, cursor) {
+        return paren(arena, cursor, room);
     }
-    atoms(arena, tokens, at, room)
+    atoms(arena, cursor, room)
 }

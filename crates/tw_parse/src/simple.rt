@@ -1,10 +1,10 @@
 //! The statements that hold no others.
 
-ghost use Rattle.std.specs.Prelude.{◌≡◌, drop};
+ghost use Rattle.std.specs.Prelude.{◌≡◌};
 ghost use Rattle.tw_syntax.specs.Names.{path_tree};
 ghost use Rattle.tw_syntax.specs.Terms.{rhs_tree};
 ghost use Rattle.tw_syntax.specs.Statements.{stmt_tree};
-ghost use Rattle.tw_parse.specs.reading.Steps.{toks};
+ghost use Rattle.tw_lex.specs.Left.{left_of};
 ghost use Rattle.tw_parse.specs.reading.Steps.{Returns};
 ghost use Rattle.tw_parse.specs.reading.Statements.{direction_at, rhs_end_at, let_at, exchange_at, swap_at, mem_swap_at, skip_at, plain_stmt_at};
 
@@ -12,35 +12,30 @@ use crate::error::ParseError;
 use crate::paths::path;
 use crate::right_sides::rhs;
 use crate::take::{leads, take_name, take_symbol};
-use tw_lex::{Symbol, Token};
+use tw_lex::{Cursor, Symbol};
 use tw_syntax::{Path, Rhs, Stmt, StmtKind};
 use tw_text::Arena;
 
 /// `<-`, which is `true`, or `->`, which is `false`.
 #[tactic(auto, unfolding(crate::specs::reading::Statements::direction_at))]
-fn direction(tokens: &[Token<'_>], at: &mut usize) -> Result<bool, ParseError>
-    ensures { Returns (λ x. (x, drop at.new (toks tokens.now))) result (direction_at (drop at.old (toks tokens.now))) }
+fn direction(cursor: &mut Cursor<'_>) -> Result<bool, ParseError>
+    ensures { Returns (λ x. (x, left_of cursor.new)) result (direction_at (left_of cursor.old)) }
 {
-    if leads(Symbol::Assign, tokens, *at) {
-        take_symbol(Symbol::Assign, tokens, at)?;
+    if leads(Symbol::Assign, cursor) {
+        take_symbol(Symbol::Assign, cursor)?;
         return Ok(true);
     }
-    take_symbol(Symbol::Arrow, tokens, at)?;
+    take_symbol(Symbol::Arrow, cursor)?;
     Ok(false)
 }
 
 /// A right side and a semicolon.
 #[tactic(auto, unfolding(crate::specs::reading::Statements::rhs_end_at))]
-fn rhs_end<'a>(
-    arena: &'a Arena,
-    tokens: &[Token<'a>],
-    at: &mut usize,
-    room: u32,
-) -> Result<Rhs<'a>, ParseError>
-    ensures { Returns (λ x. (rhs_tree x, drop at.new (toks tokens.now))) result (rhs_end_at room (drop at.old (toks tokens.now))) }
+fn rhs_end<'a>(arena: &'a Arena, cursor: &mut Cursor<'a>, room: u32) -> Result<Rhs<'a>, ParseError>
+    ensures { Returns (λ x. (rhs_tree x, left_of cursor.new)) result (rhs_end_at room (left_of cursor.old)) }
 {
-    let rhs = rhs(arena, tokens, at, room)?;
-    take_symbol(Symbol::Semicolon, tokens, at)?;
+    let rhs = rhs(arena, cursor, room)?;
+    take_symbol(Symbol::Semicolon, cursor)?;
     Ok(rhs)
 }
 
@@ -48,16 +43,15 @@ fn rhs_end<'a>(
 #[tactic(auto, unfolding(crate::specs::reading::Statements::let_at))]
 fn let_stmt<'a>(
     arena: &'a Arena,
-    tokens: &[Token<'a>],
-    at: &mut usize,
+    cursor: &mut Cursor<'a>,
     room: u32,
 ) -> Result<Stmt<'a>, ParseError>
-    ensures { Returns (λ x. (stmt_tree x, drop at.new (toks tokens.now))) result (let_at room (drop at.old (toks tokens.now))) }
+    ensures { Returns (λ x. (stmt_tree x, left_of cursor.new)) result (let_at room (left_of cursor.old)) }
 {
-    let place = take_symbol(Symbol::Let, tokens, at)?;
-    let target = take_name(tokens, at)?;
-    let forward = direction(tokens, at)?;
-    let rhs = rhs_end(arena, tokens, at, room)?;
+    let place = take_symbol(Symbol::Let, cursor)?;
+    let target = take_name(cursor)?;
+    let forward = direction(cursor)?;
+    let rhs = rhs_end(arena, cursor, room)?;
     Ok(Stmt {
         at: place,
         kind: StmtKind::Let {
@@ -70,26 +64,22 @@ fn let_stmt<'a>(
 
 /// `<->`, a path and a semicolon.
 #[tactic(auto, unfolding(crate::specs::reading::Statements::exchange_at))]
-fn exchange<'a>(
-    arena: &'a Arena,
-    tokens: &[Token<'a>],
-    at: &mut usize,
-) -> Result<Path<'a>, ParseError>
-    ensures { Returns (λ x. (path_tree x, drop at.new (toks tokens.now))) result (exchange_at (drop at.old (toks tokens.now))) }
+fn exchange<'a>(arena: &'a Arena, cursor: &mut Cursor<'a>) -> Result<Path<'a>, ParseError>
+    ensures { Returns (λ x. (path_tree x, left_of cursor.new)) result (exchange_at (left_of cursor.old)) }
 {
-    take_symbol(Symbol::Swap, tokens, at)?;
-    let path = path(arena, tokens, at)?;
-    take_symbol(Symbol::Semicolon, tokens, at)?;
+    take_symbol(Symbol::Swap, cursor)?;
+    let path = path(arena, cursor)?;
+    take_symbol(Symbol::Semicolon, cursor)?;
     Ok(path)
 }
 
 /// A swap of two paths.
 #[tactic(auto, unfolding(crate::specs::reading::Statements::swap_at))]
-fn swap<'a>(arena: &'a Arena, tokens: &[Token<'a>], at: &mut usize) -> Result<Stmt<'a>, ParseError>
-    ensures { Returns (λ x. (stmt_tree x, drop at.new (toks tokens.now))) result (swap_at (drop at.old (toks tokens.now))) }
+fn swap<'a>(arena: &'a Arena, cursor: &mut Cursor<'a>) -> Result<Stmt<'a>, ParseError>
+    ensures { Returns (λ x. (stmt_tree x, left_of cursor.new)) result (swap_at (left_of cursor.old)) }
 {
-    let left = path(arena, tokens, at)?;
-    let right = exchange(arena, tokens, at)?;
+    let left = path(arena, cursor)?;
+    let right = exchange(arena, cursor)?;
     Ok(Stmt {
         at: left.root.at,
         kind: StmtKind::Swap(left, right),
@@ -98,16 +88,12 @@ fn swap<'a>(arena: &'a Arena, tokens: &[Token<'a>], at: &mut usize) -> Result<St
 
 /// A swap with the value that a pointer points to.
 #[tactic(auto, unfolding(crate::specs::reading::Statements::mem_swap_at))]
-fn mem_swap<'a>(
-    arena: &'a Arena,
-    tokens: &[Token<'a>],
-    at: &mut usize,
-) -> Result<Stmt<'a>, ParseError>
-    ensures { Returns (λ x. (stmt_tree x, drop at.new (toks tokens.now))) result (mem_swap_at (drop at.old (toks tokens.now))) }
+fn mem_swap<'a>(arena: &'a Arena, cursor: &mut Cursor<'a>) -> Result<Stmt<'a>, ParseError>
+    ensures { Returns (λ x. (stmt_tree x, left_of cursor.new)) result (mem_swap_at (left_of cursor.old)) }
 {
-    let place = take_symbol(Symbol::Star, tokens, at)?;
-    let pointer = path(arena, tokens, at)?;
-    let value = exchange(arena, tokens, at)?;
+    let place = take_symbol(Symbol::Star, cursor)?;
+    let pointer = path(arena, cursor)?;
+    let value = exchange(arena, cursor)?;
     Ok(Stmt {
         at: place,
         kind: StmtKind::MemSwap(pointer, value),
@@ -116,11 +102,11 @@ fn mem_swap<'a>(
 
 /// `skip` and a semicolon.
 #[tactic(auto, unfolding(crate::specs::reading::Statements::skip_at))]
-fn skip<'a>(tokens: &[Token<'a>], at: &mut usize) -> Result<Stmt<'a>, ParseError>
-    ensures { Returns (λ x. (stmt_tree x, drop at.new (toks tokens.now))) result (skip_at (drop at.old (toks tokens.now))) }
+fn skip<'a>(cursor: &mut Cursor<'a>) -> Result<Stmt<'a>, ParseError>
+    ensures { Returns (λ x. (stmt_tree x, left_of cursor.new)) result (skip_at (left_of cursor.old)) }
 {
-    let place = take_symbol(Symbol::Skip, tokens, at)?;
-    take_symbol(Symbol::Semicolon, tokens, at)?;
+    let place = take_symbol(Symbol::Skip, cursor)?;
+    take_symbol(Symbol::Semicolon, cursor)?;
     Ok(Stmt {
         at: place,
         kind: StmtKind::Skip,
@@ -131,20 +117,19 @@ fn skip<'a>(tokens: &[Token<'a>], at: &mut usize) -> Result<Stmt<'a>, ParseError
 #[tactic(auto, unfolding(crate::specs::reading::Statements::plain_stmt_at))]
 pub fn plain_stmt<'a>(
     arena: &'a Arena,
-    tokens: &[Token<'a>],
-    at: &mut usize,
+    cursor: &mut Cursor<'a>,
     room: u32,
 ) -> Result<Stmt<'a>, ParseError>
-    ensures { Returns (λ x. (stmt_tree x, drop at.new (toks tokens.now))) result (plain_stmt_at room (drop at.old (toks tokens.now))) }
+    ensures { Returns (λ x. (stmt_tree x, left_of cursor.new)) result (plain_stmt_at room (left_of cursor.old)) }
 {
-    if leads(Symbol::Let, tokens, *at) {
-        return let_stmt(arena, tokens, at, room);
+    if leads(Symbol::Let, cursor) {
+        return let_stmt(arena, cursor, room);
     }
-    if leads(Symbol::Star, tokens, *at) {
-        return mem_swap(arena, tokens, at);
+    if leads(Symbol::Star, cursor) {
+        return mem_swap(arena, cursor);
     }
-    if leads(Symbol::Skip, tokens, *at) {
-        return skip(tokens, at);
+    if leads(Symbol::Skip, cursor) {
+        return skip(cursor);
     }
-    swap(arena, tokens, at)
+    swap(arena, cursor)
 }

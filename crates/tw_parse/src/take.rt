@@ -1,43 +1,23 @@
 //! What the rules of the grammar look at and take at the front of the tokens that are left.
 
-ghost use Rattle.std.specs.Prelude.{◌≡◌, ℕ, List, ◌+◌, ◌<◌, ◌==◌, ◌∷◌, [], length, drop, IfSome, IfOk};
-ghost use Rattle.std.specs.Option.{IfNone};
+ghost use Rattle.std.specs.Prelude.{◌≡◌, ◌-◌, suc, ℕ, List, ◌==◌, length, IfOk};
 ghost use Rattle.tw_syntax.specs.Names.{name_tree};
 ghost use Rattle.tw_parse.specs.declared.error.Rejection.TheVariants.{Syntax};
 ghost use Rattle.tw_parse.specs.declared.error.ParseError.TheVariants as error;
-ghost use Rattle.tw_lex.specs.Scans.{seen, lexeme_of};
-ghost use Rattle.tw_parse.specs.reading.Steps.{Returns, toks, symbol_number, is_symbol, is_name, is_number, leads, leads_name, leads_number, behind, place_at, take_symbol, take_open, take_name, take_number, take_bound_number, take_component};
+ghost use Rattle.tw_lex.specs.Scans.{lexeme_of};
+ghost use Rattle.tw_lex.specs.Left.{left_of};
+ghost use Rattle.tw_parse.specs.reading.Steps.{Returns, symbol_number, is_symbol, is_name, is_number, leads, leads_name, leads_number, place_at, take_symbol, take_open, take_name, take_number, take_bound_number, take_component};
 
 use crate::error::{ParseError, Rejection};
-use tw_lex::{Symbol, Token, TokenKind};
+use tw_lex::{Cursor, Symbol, TokenKind};
 use tw_syntax::Name;
 use tw_text::Pos;
 
-/// The token at this place.
-pub fn first<'a>(tokens: &[Token<'a>], at: usize) -> Option<Token<'a>>
-    ensures some { IfSome result (λ token. drop at (toks tokens.now) ≡ seen token ∷ drop (at + 1) (toks tokens.now)) }
-    ensures none { IfNone result (drop at (toks tokens.now) ≡ []) }
-    ensures in_range { IfSome result (λ token. at < length tokens.now) }
-{
-    if at < tokens.len() {
-        Some(tokens[at])
-    } else {
-        None
-    }
-}
-
-/// The number of tokens that are left.
-pub fn left(tokens: &[Token<'_>], at: usize) -> usize
-    ensures { result ≡ length (drop at (toks tokens.now)) }
-{
-    tokens.len().saturating_sub(at)
-}
-
 /// The halt where the token at this place is wrong.
-pub fn wrong(tokens: &[Token<'_>], at: usize) -> ParseError
-    ensures { result ≡ error.Rejection (Syntax (length (drop at (toks tokens.now)))) }
+fn wrong(cursor: &Cursor<'_>) -> ParseError
+    ensures { result ≡ error.Rejection (Syntax (length (left_of cursor.now))) }
 {
-    ParseError::Rejection(Rejection::Syntax(left(tokens, at)))
+    ParseError::Rejection(Rejection::Syntax(cursor.left()))
 }
 
 fn number_of(mark: Symbol) -> u8
@@ -58,43 +38,38 @@ fn is_symbol(mark: Symbol, kind: TokenKind) -> bool
 }
 
 /// Whether this mark stands here.
-pub fn leads(mark: Symbol, tokens: &[Token<'_>], at: usize) -> bool
-    ensures { result ≡ leads mark (drop at (toks tokens.now)) }
+pub fn leads(mark: Symbol, cursor: &Cursor<'_>) -> bool
+    ensures { result ≡ leads mark (left_of cursor.now) }
 {
-    match first(tokens, at) {
+    match cursor.first() {
         Some(token) => is_symbol(mark, token.kind),
         None => false,
     }
 }
 
 /// This mark, and its place.
-pub fn take_symbol(mark: Symbol, tokens: &[Token<'_>], at: &mut usize) -> Result<Pos, ParseError>
-    ensures { Returns (λ p. (p, drop at.new (toks tokens.now))) result (take_symbol mark (drop at.old (toks tokens.now))) }
+pub fn take_symbol(mark: Symbol, cursor: &mut Cursor<'_>) -> Result<Pos, ParseError>
+    ensures { Returns (λ p. (p, left_of cursor.new)) result (take_symbol mark (left_of cursor.old)) }
 {
-    match first(tokens, *at) {
+    match cursor.first() {
         Some(token) => {
             if !is_symbol(mark, token.kind) {
-                return Err(wrong(tokens, *at));
+                return Err(wrong(cursor));
             }
-            *at += 1;
+            cursor.advance();
             Ok(token.at)
         }
-        None => Err(wrong(tokens, *at)),
+        None => Err(wrong(cursor)),
     }
 }
 
 /// This mark, which opens a bracket, and its place. An error too where no more brackets may open.
-pub fn take_open(
-    mark: Symbol,
-    room: u32,
-    tokens: &[Token<'_>],
-    at: &mut usize,
-) -> Result<Pos, ParseError>
-    ensures given { Returns (λ p. (p, drop at.new (toks tokens.now))) result (take_open mark room (drop at.old (toks tokens.now))) }
-    ensures roomy { IfOk result (λ p. 0 < room) }
+pub fn take_open(mark: Symbol, room: u32, cursor: &mut Cursor<'_>) -> Result<Pos, ParseError>
+    ensures given { Returns (λ p. (p, left_of cursor.new)) result (take_open mark room (left_of cursor.old)) }
+    ensures roomy { IfOk result (λ p. suc (room - 1) ≡ room) }
 {
-    let count = left(tokens, *at);
-    let place = take_symbol(mark, tokens, at)?;
+    let count = cursor.left();
+    let place = take_symbol(mark, cursor)?;
     if room == 0 {
         return Err(ParseError::Rejection(Rejection::Nesting(count)));
     }
@@ -124,103 +99,94 @@ fn is_number(kind: TokenKind) -> bool
 }
 
 /// Whether a name stands here.
-pub fn leads_name(tokens: &[Token<'_>], at: usize) -> bool
-    ensures { result ≡ leads_name (drop at (toks tokens.now)) }
+pub fn leads_name(cursor: &Cursor<'_>) -> bool
+    ensures { result ≡ leads_name (left_of cursor.now) }
 {
-    match first(tokens, at) {
+    match cursor.first() {
         Some(token) => is_name(token.kind),
         None => false,
     }
 }
 
 /// Whether a number stands here.
-pub fn leads_number(tokens: &[Token<'_>], at: usize) -> bool
-    ensures { result ≡ leads_number (drop at (toks tokens.now)) }
+pub fn leads_number(cursor: &Cursor<'_>) -> bool
+    ensures { result ≡ leads_number (left_of cursor.now) }
 {
-    match first(tokens, at) {
+    match cursor.first() {
         Some(token) => is_number(token.kind),
         None => false,
     }
 }
 
 /// The place of the token at this place.
-pub fn place(tokens: &[Token<'_>], at: usize) -> Result<Pos, ParseError>
-    ensures { Returns (λ p. p) result (place_at (drop at (toks tokens.now))) }
+pub fn place(cursor: &Cursor<'_>) -> Result<Pos, ParseError>
+    ensures { Returns (λ p. p) result (place_at (left_of cursor.now)) }
 {
-    match first(tokens, at) {
+    match cursor.first() {
         Some(token) => Ok(token.at),
-        None => Err(wrong(tokens, at)),
+        None => Err(wrong(cursor)),
     }
 }
 
 /// A name.
-pub fn take_name<'a>(tokens: &[Token<'a>], at: &mut usize) -> Result<Name<'a>, ParseError>
-    ensures { Returns (λ name. (name_tree name, drop at.new (toks tokens.now))) result (take_name (drop at.old (toks tokens.now))) }
+pub fn take_name<'a>(cursor: &mut Cursor<'a>) -> Result<Name<'a>, ParseError>
+    ensures { Returns (λ name. (name_tree name, left_of cursor.new)) result (take_name (left_of cursor.old)) }
 {
-    let Some(token) = first(tokens, *at) else {
-        return Err(wrong(tokens, *at));
+    let Some(token) = cursor.first() else {
+        return Err(wrong(cursor));
     };
     match token.kind {
         TokenKind::Name => {
-            *at += 1;
+            cursor.advance();
             Ok(Name {
                 text: token.text,
                 at: token.at,
             })
         }
-        TokenKind::Word(_) | TokenKind::Number(_) | TokenKind::Mark(_) => Err(wrong(tokens, *at)),
+        TokenKind::Word(_) | TokenKind::Number(_) | TokenKind::Mark(_) => Err(wrong(cursor)),
     }
 }
 
 /// A number.
-pub fn take_number(tokens: &[Token<'_>], at: &mut usize) -> Result<u64, ParseError>
-    ensures { Returns (λ number. (number, drop at.new (toks tokens.now))) result (take_number (drop at.old (toks tokens.now))) }
+pub fn take_number(cursor: &mut Cursor<'_>) -> Result<u64, ParseError>
+    ensures { Returns (λ number. (number, left_of cursor.new)) result (take_number (left_of cursor.old)) }
 {
-    let Some(token) = first(tokens, *at) else {
-        return Err(wrong(tokens, *at));
+    let Some(token) = cursor.first() else {
+        return Err(wrong(cursor));
     };
     match token.kind {
         TokenKind::Number(value) => {
-            *at += 1;
+            cursor.advance();
             Ok(value)
         }
-        TokenKind::Name | TokenKind::Word(_) | TokenKind::Mark(_) => Err(wrong(tokens, *at)),
+        TokenKind::Name | TokenKind::Word(_) | TokenKind::Mark(_) => Err(wrong(cursor)),
     }
 }
 
 /// A number of at most 255.
 #[tactic(auto, unfolding(crate::specs::reading::Steps::take_bound_number))]
-pub fn take_bound_number(tokens: &[Token<'_>], at: &mut usize) -> Result<u8, ParseError>
-    ensures { Returns (λ number. (number, drop at.new (toks tokens.now))) result (take_bound_number (drop at.old (toks tokens.now))) }
+pub fn take_bound_number(cursor: &mut Cursor<'_>) -> Result<u8, ParseError>
+    ensures { Returns (λ number. (number, left_of cursor.new)) result (take_bound_number (left_of cursor.old)) }
 {
-    let before = *at;
-    let number = take_number(tokens, at)?;
+    let error = wrong(cursor);
+    let number = take_number(cursor)?;
     if number < 256 {
         Ok(number as u8)
     } else {
-        Err(wrong(tokens, before))
+        Err(error)
     }
 }
 
 /// The number 1 or 2.
 #[tactic(auto, unfolding(crate::specs::reading::Steps::take_component))]
-pub fn take_component(tokens: &[Token<'_>], at: &mut usize) -> Result<u8, ParseError>
-    ensures { Returns (λ number. (number, drop at.new (toks tokens.now))) result (take_component (drop at.old (toks tokens.now))) }
+pub fn take_component(cursor: &mut Cursor<'_>) -> Result<u8, ParseError>
+    ensures { Returns (λ number. (number, left_of cursor.new)) result (take_component (left_of cursor.old)) }
 {
-    let before = *at;
-    let number = take_number(tokens, at)?;
+    let error = wrong(cursor);
+    let number = take_number(cursor)?;
     if number == 1 || number == 2 {
         Ok(number as u8)
     } else {
-        Err(wrong(tokens, before))
-    }
-}
-
-/// Passes the token at this place.
-pub fn pass(tokens: &[Token<'_>], at: &mut usize)
-    ensures { drop at.new (toks tokens.now) ≡ behind (drop at.old (toks tokens.now)) }
-{
-    if first(tokens, *at).is_some() {
-        *at += 1;
+        Err(error)
     }
 }

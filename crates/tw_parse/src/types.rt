@@ -1,35 +1,31 @@
 //! Types.
 
-ghost use Rattle.std.specs.Prelude.{◌≡◌, ◌+◌, ◌<◌, suc, drop};
+ghost use Rattle.std.specs.Prelude.{◌≡◌, ◌+◌, ◌<◌, suc};
 ghost use Rattle.tw_syntax.specs.Types.{written_tree};
-ghost use Rattle.tw_parse.specs.reading.Steps.{toks};
+ghost use Rattle.tw_lex.specs.Left.{left_of};
 ghost use Rattle.tw_parse.specs.reading.Steps.{Returns};
 ghost use Rattle.tw_parse.specs.reading.Terms.{type_at, ptr_with, paren_with, pair_with, plain_type_at, type_argument_with};
 
 use crate::error::ParseError;
 use crate::take::{leads, take_name, take_open, take_symbol};
-use tw_lex::{Symbol, Token};
+use tw_lex::{Cursor, Symbol};
 use tw_syntax::{Written, WrittenKind, build_written};
 use tw_text::{Arena, Pos};
 
 /// `uint`, `bool` or a name.
 #[tactic(auto, unfolding(crate::specs::reading::Terms::plain_type_at))]
-fn plain_type<'a>(
-    arena: &'a Arena,
-    tokens: &[Token<'a>],
-    at: &mut usize,
-) -> Result<&'a Written<'a>, ParseError>
-    ensures { Returns (λ x. (written_tree x.now, drop at.new (toks tokens.now))) result (plain_type_at (drop at.old (toks tokens.now))) }
+fn plain_type<'a>(arena: &'a Arena, cursor: &mut Cursor<'a>) -> Result<&'a Written<'a>, ParseError>
+    ensures { Returns (λ x. (written_tree x.now, left_of cursor.new)) result (plain_type_at (left_of cursor.old)) }
 {
-    if leads(Symbol::Uint, tokens, *at) {
-        let place = take_symbol(Symbol::Uint, tokens, at)?;
+    if leads(Symbol::Uint, cursor) {
+        let place = take_symbol(Symbol::Uint, cursor)?;
         return Ok(build_written(arena, place, WrittenKind::Uint)?);
     }
-    if leads(Symbol::Bool, tokens, *at) {
-        let place = take_symbol(Symbol::Bool, tokens, at)?;
+    if leads(Symbol::Bool, cursor) {
+        let place = take_symbol(Symbol::Bool, cursor)?;
         return Ok(build_written(arena, place, WrittenKind::Bool)?);
     }
-    let name = take_name(tokens, at)?;
+    let name = take_name(cursor)?;
     Ok(build_written(arena, name.at, WrittenKind::Named(name.text))?)
 }
 
@@ -38,15 +34,14 @@ fn plain_type<'a>(
 #[tactic(auto, unfolding(crate::specs::reading::Terms::type_argument_with))]
 pub fn type_argument<'a>(
     arena: &'a Arena,
-    tokens: &[Token<'a>],
-    at: &mut usize,
+    cursor: &mut Cursor<'a>,
     room: u32,
 ) -> Result<&'a Written<'a>, ParseError>
-    ensures { Returns (λ x. (written_tree x.now, drop at.new (toks tokens.now))) result (type_argument_with (type_at room) room (drop at.old (toks tokens.now))) }
+    ensures { Returns (λ x. (written_tree x.now, left_of cursor.new)) result (type_argument_with (type_at room) room (left_of cursor.old)) }
 {
-    take_open(Symbol::Less, room, tokens, at)?;
-    let to = written(arena, tokens, at, room - 1)?;
-    take_symbol(Symbol::Greater, tokens, at)?;
+    take_open(Symbol::Less, room, cursor)?;
+    let to = written(arena, cursor, room - 1)?;
+    take_symbol(Symbol::Greater, cursor)?;
     Ok(to)
 }
 
@@ -55,14 +50,13 @@ pub fn type_argument<'a>(
 #[tactic(auto, unfolding(crate::specs::reading::Terms::ptr_with))]
 fn ptr<'a>(
     arena: &'a Arena,
-    tokens: &[Token<'a>],
-    at: &mut usize,
+    cursor: &mut Cursor<'a>,
     room: u32,
 ) -> Result<&'a Written<'a>, ParseError>
-    ensures { Returns (λ x. (written_tree x.now, drop at.new (toks tokens.now))) result (ptr_with (type_at room) room (drop at.old (toks tokens.now))) }
+    ensures { Returns (λ x. (written_tree x.now, left_of cursor.new)) result (ptr_with (type_at room) room (left_of cursor.old)) }
 {
-    let place = take_symbol(Symbol::Ptr, tokens, at)?;
-    let to = type_argument(arena, tokens, at, room)?;
+    let place = take_symbol(Symbol::Ptr, cursor)?;
+    let to = type_argument(arena, cursor, room)?;
     Ok(build_written(arena, place, WrittenKind::Ptr(to))?)
 }
 
@@ -72,16 +66,15 @@ fn ptr<'a>(
 fn pair<'a>(
     arena: &'a Arena,
     place: Pos,
-    tokens: &[Token<'a>],
-    at: &mut usize,
+    cursor: &mut Cursor<'a>,
     room: u32,
 ) -> Result<&'a Written<'a>, ParseError>
-    ensures { Returns (λ x. (written_tree x.now, drop at.new (toks tokens.now))) result (pair_with (type_at (suc room)) place (drop at.old (toks tokens.now))) }
+    ensures { Returns (λ x. (written_tree x.now, left_of cursor.new)) result (pair_with (type_at (suc room)) place (left_of cursor.old)) }
 {
-    let first = written(arena, tokens, at, room)?;
-    take_symbol(Symbol::Comma, tokens, at)?;
-    let second = written(arena, tokens, at, room)?;
-    take_symbol(Symbol::CloseParen, tokens, at)?;
+    let first = written(arena, cursor, room)?;
+    take_symbol(Symbol::Comma, cursor)?;
+    let second = written(arena, cursor, room)?;
+    take_symbol(Symbol::CloseParen, cursor)?;
     Ok(build_written(arena, place, WrittenKind::Pair(first, second))?)
 }
 
@@ -90,18 +83,17 @@ fn pair<'a>(
 #[tactic(auto, unfolding(crate::specs::reading::Terms::paren_with))]
 fn paren<'a>(
     arena: &'a Arena,
-    tokens: &[Token<'a>],
-    at: &mut usize,
+    cursor: &mut Cursor<'a>,
     room: u32,
 ) -> Result<&'a Written<'a>, ParseError>
-    ensures { Returns (λ x. (written_tree x.now, drop at.new (toks tokens.now))) result (paren_with (type_at room) room (drop at.old (toks tokens.now))) }
+    ensures { Returns (λ x. (written_tree x.now, left_of cursor.new)) result (paren_with (type_at room) room (left_of cursor.old)) }
 {
-    let place = take_open(Symbol::OpenParen, room, tokens, at)?;
-    if leads(Symbol::CloseParen, tokens, *at) {
-        take_symbol(Symbol::CloseParen, tokens, at)?;
+    let place = take_open(Symbol::OpenParen, room, cursor)?;
+    if leads(Symbol::CloseParen, cursor) {
+        take_symbol(Symbol::CloseParen, cursor)?;
         return Ok(build_written(arena, place, WrittenKind::Unit)?);
     }
-    pair(arena, place, tokens, at, room - 1)
+    pair(arena, place, cursor, room - 1)
 }
 
 /// A type, in which so many brackets may open.
@@ -109,17 +101,16 @@ fn paren<'a>(
 #[tactic(auto, unfolding(crate::specs::reading::Terms::type_at, crate::specs::reading::Terms::type_with))]
 pub fn written<'a>(
     arena: &'a Arena,
-    tokens: &[Token<'a>],
-    at: &mut usize,
+    cursor: &mut Cursor<'a>,
     room: u32,
 ) -> Result<&'a Written<'a>, ParseError>
-    ensures { Returns (λ x. (written_tree x.now, drop at.new (toks tokens.now))) result (type_at (suc room) (drop at.old (toks tokens.now))) }
+    ensures { Returns (λ x. (written_tree x.now, left_of cursor.new)) result (type_at (suc room) (left_of cursor.old)) }
 {
-    if leads(Symbol::Ptr, tokens, *at) {
-        return ptr(arena, tokens, at, room);
+    if leads(Symbol::Ptr, cursor) {
+        return ptr(arena, cursor, room);
     }
-    if leads(Symbol::OpenParen, tokens, *at) {
-        return paren(arena, tokens, at, room);
+    if leads(Symbol::OpenParen, cursor) {
+        return paren(arena, cursor, room);
     }
-    plain_type(arena, tokens, at)
+    plain_type(arena, cursor)
 }

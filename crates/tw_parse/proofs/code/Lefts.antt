@@ -1,10 +1,13 @@
--- The items that are left, one at a time.
-use Rattle.std.proofs.Common.{◌≡◌, ℕ, ◌+◌, ◌<◌, List, ◌∷◌, length, get_or, drop, map, ap, sym, ◌∙◌}
-use Rattle.std.proofs.lemmas.List.{drop_more, drop-map}
-use Rattle.tw_lex.specs.declared.token.Token.{Token}
-use Rattle.tw_lex.specs.Scans.{seen}
-use Rattle.tw_parse.specs.reading.Steps.{toks}
+-- The tokens that are left, one at a time.
+use Rattle.std.proofs.Common.{◌≡◌, ◌∙◌, ap, ℕ, zero, suc, ◌+◌, List, [], ◌∷◌, drop, refl, arith}
+use Rattle.tw_lex.specs.Tokens.{Lexed}
+use Rattle.tw_lex.specs.Cursors.{behind}
 
-pub drop-toks : (items : List Token) (i : ℕ) (d : Token) → i < length items → drop i (toks items) ≡ seen (get_or items i d) ∷ drop (i + 1) (toks items)
-drop-toks items i d inside =
-    drop-map seen i items ∙ ap (map seen) (drop_more items i d inside) ∙ ap (λ ts. seen (get_or items i d) ∷ ts) (sym (drop-map seen (i + 1) items))
+behind-next : (n : ℕ) (ts : List Lexed) → behind (drop n ts) ≡ drop (suc n) ts
+behind-next zero [] = refl
+behind-next zero (t ∷ ts) = refl
+behind-next (suc n) [] = refl
+behind-next (suc n) (t ∷ ts) = behind-next n ts
+
+pub behind-drop : (n : ℕ) (ts : List Lexed) → behind (drop n ts) ≡ drop (n + 1) ts
+behind-drop n ts = let next : suc n ≡ n + 1 = omega arith in behind-next n ts ∙ ap (λ k. drop k ts) next

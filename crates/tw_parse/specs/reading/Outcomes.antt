@@ -1,21 +1,17 @@
 -- What parsing a source gives: the tree of its tokens, or where and why it is refused.
-use Rattle.std.specs.Prelude.{◌≡◌, ℕ, ◌-◌, List, [], ◌∷◌, length, take, drop, Ok, Err, refl}
-use Rattle.std.specs.Str.{chars, IsUtf8, IsValidUpTo}
+use Rattle.std.specs.Prelude.{◌≡◌, ℕ, List, Ok, Err}
+use Rattle.std.specs.Str.{chars, IsUtf8}
 use Rattle.tw_text.specs.declared.place.Pos.{Pos}
-use Rattle.tw_text.specs.declared.refusal.Counted.TheVariants as counted
-use Rattle.tw_text.specs.declared.refusal.Rule.TheVariants as rule
 use Rattle.tw_text.specs.declared.refusal.Refusal.{Refusal}
 use Rattle.tw_text.specs.declared.refusal.Fault.{Fault}
 use Rattle.tw_text.specs.declared.refusal.Fault.TheVariants as fault
-use Rattle.tw_text.specs.Places.{first_place, after_chars}
+use Rattle.tw_text.specs.Places.{first_place}
 use Rattle.tw_lex.specs.Scans.{IsNoToken}
 use Rattle.tw_syntax.specs.Programs.{ProgramTree}
 use Rattle.tw_parse.specs.declared.error.Rejection.{Rejection}
 use Rattle.tw_parse.specs.declared.error.ParseError.{ParseError}
 use Rattle.tw_parse.specs.declared.error.ParseError.TheVariants as error
-use Rattle.tw_parse.specs.declared.error.Rejection.TheVariants.{Syntax, Nesting}
-use Rattle.tw_lex.specs.declared.symbol.Symbol.TheVariants as symbols
-use Rattle.tw_lex.specs.Tokens.{Lexed, sign_at, HasTokens}
+use Rattle.tw_lex.specs.Tokens.{Lexed, HasTokens}
 use Rattle.tw_parse.specs.Refusals.{refusal_of, end_of, IsNoText}
 use Rattle.tw_parse.specs.reading.Statements.{whole_at}
 

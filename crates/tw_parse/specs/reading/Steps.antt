@@ -1,10 +1,8 @@
 -- Reading from left to right: a reader takes what it reads from the front of the tokens, or says where they are wrong.
-use Rattle.std.specs.Prelude.{◌≡◌, ℕ, zero, suc, ◌==◌, Bool, true, false, ◌||◌, if◌then◌else◌, nat_lt, List, [], ◌∷◌, length, map, Result, Ok, Err, codes, refl}
+use Rattle.std.specs.Prelude.{◌≡◌, ℕ, zero, suc, ◌==◌, Bool, true, false, ◌||◌, if◌then◌else◌, nat_lt, List, [], ◌∷◌, length, Result, Ok, Err, codes, refl}
 use Rattle.tw_text.specs.declared.place.Pos.{Pos}
 use Rattle.tw_lex.specs.declared.symbol.Symbol.{Symbol}
 use Rattle.tw_lex.specs.declared.symbol.Symbol.TheVariants as symbols
-use Rattle.tw_lex.specs.declared.token.Token.{Token}
-use Rattle.tw_lex.specs.Scans.{seen}
 use Rattle.tw_parse.specs.declared.error.Rejection.{Rejection}
 use Rattle.tw_parse.specs.declared.error.Rejection.TheVariants.{Syntax, Nesting}
 use Rattle.tw_parse.specs.declared.error.ParseError.{ParseError}
@@ -12,10 +10,6 @@ use Rattle.tw_parse.specs.declared.error.ParseError.TheVariants as error
 use Rattle.tw_syntax.specs.Names.{NameTree}
 use Rattle.tw_lex.specs.Tokens.{Lexeme, Name, Number, Sign, Lexed, name_at, number_at, sign_at}
 use Rattle.tw_parse.specs.Trees.{named}
-
--- the tokens of the code as the grammar sees them
-abbrev pub toks : List Token → List Lexed
-toks tokens = map seen tokens
 
 -- what is read, and the tokens behind it
 abbrev pub Reader : Type 0 → Type 0
@@ -115,11 +109,6 @@ leads_name (t ∷ ts) = is_name t.lexeme
 abbrev pub leads_number : List Lexed → Bool
 leads_number [] = false
 leads_number (t ∷ ts) = is_number t.lexeme
-
--- the tokens behind the first one
-abbrev pub behind : List Lexed → List Lexed
-behind [] = []
-behind (t ∷ ts) = ts
 
 -- the place of the first token
 abbrev pub place_at : List Lexed → Result Pos Rejection

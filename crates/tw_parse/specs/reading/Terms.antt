@@ -10,7 +10,8 @@ use Rattle.tw_syntax.specs.Names.{NameTree, PathTree}
 use Rattle.tw_syntax.specs.Types.{WrittenTree, UnitType, UintType, BoolType, PairType, PtrType, NamedType}
 use Rattle.tw_syntax.specs.Terms.{AtomTree, PlaceAtom, NumberAtom, TrueAtom, FalseAtom, UnitAtom, NullAtom, ZeroAtom, ExprTree, OneExpr, TwoExpr, NotExpr, OpExpr, BoundTree, FixedBound, SameBound, LessBound, RhsTree, ExprRhs, CallRhs, AllocRhs}
 use Rattle.tw_lex.specs.Tokens.{Lexed, name_at, sign_at}
-use Rattle.tw_parse.specs.reading.Steps.{Reader, ◌>>=◌, leads, leads_name, leads_number, behind, place_at, take_symbol, take_open, take_name, take_number, take_bound_number, take_component, all_at}
+use Rattle.tw_lex.specs.Cursors.{behind}
+use Rattle.tw_parse.specs.reading.Steps.{Reader, ◌>>=◌, leads, leads_name, leads_number, place_at, take_symbol, take_open, take_name, take_number, take_bound_number, take_component, all_at}
 
 -- "<" type ">"
 unfoldable pub type_argument_with : Reader WrittenTree → ℕ → Reader WrittenTree

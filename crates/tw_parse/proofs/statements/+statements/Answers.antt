@@ -1,9 +1,8 @@
-use Rattle.std.proofs.Common.{◌≡◌, ◌-◌, suc, sym, ap, ◌∙◌, not, arith}
+use Rattle.std.proofs.Common.{sym, ap, ◌∙◌, not}
 use Rattle.std.proofs.lemmas.List.{map_push}
 use Rattle.std.proofs.lemmas.Result.{err_from_is_err_and}
 use Rattle.tw_syntax.specs.Statements.{stmt_tree}
-use Rattle.tw_parse.specs.reading.Statements.{block_with}
-use Rattle.tw_parse.proofs.code.Many.{goes_on, fails, fails_first, stops, is_done}
+use Rattle.tw_parse.proofs.code.Many.{goes_on, fails, stops, is_done}
 use Rattle.tw_parse.proofs.statements.+statements.Goals as goal
 
 pub stmts-loop-preserved : goal.stmts-loop-preserved
@@ -21,11 +20,3 @@ stmts-returns-then-leads t c = rw c.into_bump_slice.ensures (stops c.loop.invari
 
 pub stmts-returns : goal.stmts-returns
 stmts-returns t c = rw c.into_bump_slice-2.ensures (is_done c.loop.invariant c.loop-test.false)
-
-pub block-returns-in_err-take_symbol : goal.block-returns-in_err-take_symbol
-unfolding block_with
-block-returns-in_err-take_symbol t c =
-    let p = err_from_is_err_and c.from_residual-in_err-take_symbol.result c.from_residual-in_err-take_symbol.ensures.1 in
-    let room : suc (c.args.room - 1) ≡ c.args.room = omega (arith, c.in_ok-take_open.ensures.roomy) in
-    let read = rw room at c.in_ok-stmts.ensures in
-    rw (p.1, p.2, c.in_ok-take_open.ensures.given, read) (fails_first _ _ _ c.in_err-take_symbol.ensures)

@@ -1,6 +1,7 @@
-use Rattle.std.proofs.Common.{◌+◌, ◌*◌, ◌-◌, suc, drop, map}
+use Rattle.std.proofs.Common.{◌+◌, ◌*◌, ◌-◌, suc, map}
 use Rattle.tw_syntax.specs.Statements.{stmt_tree}
-use Rattle.tw_parse.specs.reading.Steps.{toks, all_at}
+use Rattle.tw_lex.specs.Left.{left_of}
+use Rattle.tw_parse.specs.reading.Steps.{all_at}
 use Rattle.tw_parse.specs.reading.Statements.{goes_before, stmt_at}
 use Rattle.tw_parse.proofs.code.Many.{Reads}
 use Rattle.tw_parse.proofs.statements.+statements.Given as goal
@@ -28,5 +29,5 @@ decreases-stmts l = 8 * l.room + 8
 
 abbrev pub invariant-stmts-loop : goal.invariant-stmts-loop
 invariant-stmts-loop l =
-    Reads (goes_before l.fn.end) (stmt_at (suc l.fn.room)) (map stmt_tree l.stmts.items) (l.count - l.counter) (drop l.at (toks l.tokens))
-    (all_at (goes_before l.fn.end) (stmt_at (suc l.fn.room)) (drop l.initial.at (toks l.tokens)))
+    Reads (goes_before l.fn.end) (stmt_at (suc l.fn.room)) (map stmt_tree l.stmts.items) (l.count - l.counter) (left_of l.cursor)
+    (all_at (goes_before l.fn.end) (stmt_at (suc l.fn.room)) (left_of l.initial.cursor))
