@@ -7,7 +7,7 @@ use Rattle.std.proofs.lemmas.Nat.{field_of, shr-shr, xor_mod, xor_shr}
 use Rattle.tw_bits.specs.Lists.{bit_at, flipped}
 use Rattle.tw_bits.specs.Numbers.{number_bits, bits_number}
 
--- flipping a place twice is nothing
+-- two flips of a place change nothing
 pub flipped-flipped : (bits : List Bool) (place : ℕ) → flipped (flipped bits place) place ≡ bits
 flipped-flipped [] place = refl
 flipped-flipped (true ∷ bits) zero = refl
@@ -19,7 +19,7 @@ length-flipped [] place = refl
 length-flipped (b ∷ bits) zero = refl
 length-flipped (b ∷ bits) (suc place) = ap suc (length-flipped bits place)
 
--- flipping a place leaves the others
+-- a flip of a place leaves the other bits
 pub bit_at-flipped : (bits : List Bool) (flip place : ℕ) → ¬ (flip ≡ place) → bit_at (flipped bits flip) place ≡ bit_at bits place
 bit_at-flipped [] flip place apart = refl
 bit_at-flipped (b ∷ bits) zero zero apart = absurd (apart refl)
@@ -27,13 +27,13 @@ bit_at-flipped (b ∷ bits) zero (suc place) apart = refl
 bit_at-flipped (b ∷ bits) (suc flip) zero apart = refl
 bit_at-flipped (b ∷ bits) (suc flip) (suc place) apart = bit_at-flipped bits flip place (λ same. apart (ap suc same))
 
--- and changes the bit there
+-- and changes the bit at the place
 pub bit_at-flipped_same : (bits : List Bool) (place : ℕ) → place < length bits → bit_at (flipped bits place) place ≡ not (bit_at bits place)
 bit_at-flipped_same [] place inside = absurd (omega (arith, inside))
 bit_at-flipped_same (b ∷ bits) zero inside = refl
 bit_at-flipped_same (b ∷ bits) (suc place) inside = bit_at-flipped_same bits place (omega (arith, inside))
 
--- a number has as many bits as are asked for
+-- `number_bits` has as many bits as the width
 pub length-number_bits : (width n : ℕ) → length (number_bits width n) ≡ width
 length-number_bits zero n = refl
 length-number_bits (suc width) n = ap suc (length-number_bits width (n / 2))
@@ -95,7 +95,7 @@ bits_number-lt [] = omega arith
 bits_number-lt (true ∷ bits) = omega (arith, pow-suc 2 (length bits), bits_number-lt bits)
 bits_number-lt (false ∷ bits) = omega (arith, pow-suc 2 (length bits), bits_number-lt bits)
 
--- each list of bits is that of its number
+-- each list of bits is the list of its number
 pub number_bits-bits_number : (bits : List Bool) → number_bits (length bits) (bits_number bits) ≡ bits
 number_bits-bits_number [] = refl
 number_bits-bits_number (true ∷ bits) =
@@ -121,7 +121,7 @@ bits_number-number_bits_mod (suc width) n =
 pub bits_number-number_bits : (width n : ℕ) → n < 2 ^ width → bits_number (number_bits width n) ≡ n
 bits_number-number_bits width n fits = bits_number-number_bits_mod width n ∙ mod-eq_of_lt fits
 
--- numbers that fit and have the same bits are the same
+-- numbers that fit the width and have the same bits are equal
 pub number_bits-injective : (width m n : ℕ) → m < 2 ^ width → n < 2 ^ width → number_bits width m ≡ number_bits width n → m ≡ n
 number_bits-injective width m n fits fits' same =
     sym (bits_number-number_bits width m fits) ∙ ap bits_number same ∙ bits_number-number_bits width n fits'

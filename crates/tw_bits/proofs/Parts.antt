@@ -8,7 +8,7 @@ use Rattle.std.proofs.lemmas.List.{take_at, drop_at, drop-drop}
 use Rattle.tw_bits.specs.Numbers.{number_bits}
 use Rattle.tw_bits.proofs.Laws.{length-number_bits, number_bits-mod, number_bits-add}
 
--- what a part reads does not see the bits behind it
+-- the value of a part does not depend on the bits after it
 pub low_part : (n whole off len : ℕ) → off + len ≤ whole → n % 2 ^ whole / 2 ^ off % 2 ^ len ≡ n / 2 ^ off % 2 ^ len
 low_part n whole off len inside =
     let rest : ℕ = whole - (off + len) in

@@ -1,4 +1,4 @@
--- The bit or the number at a place, by the words that hold it.
+-- The bit or the number at a place, from the words that hold it.
 use Rattle.std.proofs.Common.{◌≡◌, ◌∙◌, ap, sym, ℕ, ◌+◌, ◌*◌, ◌/◌, ◌%◌, ◌^◌, ◌<◌, ◌≤◌, nat_eq, Bool, List, ◌++◌, length, take, drop, bit_and, bit_xor, arith}
 use Rattle.std.proofs.Math.Nat.{mul_assoc, mod-lt}
 use Rattle.std.proofs.lemmas.Nat.{pow-add, pow_pos, shr-shr, one_shl, shl_whole, xor_lt}
@@ -8,11 +8,11 @@ use Rattle.tw_bits.specs.Numbers.{number_bits}
 use Rattle.tw_bits.proofs.Laws.{length-number_bits, number_bits-mod, number_bits-injective, bit_at-number_bits, flipped-number_bits}
 use Rattle.tw_bits.proofs.Parts.{low_part, part, put_part}
 
--- the word of a place and the place in it
+-- the word of a place, and the place in that word
 place : (i : ℕ) → 64 * (i / 64) + i % 64 ≡ i
 place i = omega arith
 
--- the words from the one of a place on have the part that begins there
+-- the words from that of a place on have the part that begins there
 part_of_words : (n off len many : ℕ) → off % 64 + len ≤ many → n / 2 ^ (64 * (off / 64)) % 2 ^ many / 2 ^ (off % 64) % 2 ^ len ≡ n / 2 ^ off % 2 ^ len
 part_of_words n off len many inside =
     low_part (n / 2 ^ (64 * (off / 64))) many (off % 64) len inside
@@ -24,7 +24,7 @@ at_place flips off =
     let e : off % 64 + 64 * (off / 64) ≡ off = omega arith in
     mul_assoc flips (2 ^ (off % 64)) (2 ^ (64 * (off / 64))) ∙ ap (λ p. flips * p) (sym (pow-add 2 (off % 64) (64 * (off / 64))) ∙ ap (λ k. 2 ^ k) e)
 
--- lists that are the bits of a number
+-- a list that is the bits of a number
 module _ (width n : ℕ) (bits : List Bool) (is : number_bits width n ≡ bits) where
   pub length-seen : length bits ≡ width
   length-seen = ap length (sym is) ∙ length-number_bits width n

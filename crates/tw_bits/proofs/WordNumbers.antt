@@ -53,7 +53,7 @@ words_number-xor (word ∷ words) (suc at) flips inside fit fits =
     ∙ sym (xor_block 64 (words_number words) (flips * 2 ^ (64 * at)) word 0 (small word (fit 0)) (pow_pos 64))
     ∙ ap (bit_xor (words_number (word ∷ words))) (sym (next_power flips at))
 
--- the flips of two neighbouring words are those of their number
+-- the flips of two adjacent words are those of their number
 pub two_flips : (n flips at : ℕ) → bit_xor (bit_xor n (flips % 2 ^ 64 * 2 ^ (64 * at))) (flips / 2 ^ 64 * 2 ^ (64 * (at + 1))) ≡ bit_xor n (flips * 2 ^ (64 * at))
 two_flips n flips at =
     let low : ℕ = flips % 2 ^ 64 in

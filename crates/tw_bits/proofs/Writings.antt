@@ -7,7 +7,7 @@ use Rattle.tw_bits.specs.Numbers.{number_bits, bits_number}
 use Rattle.tw_bits.specs.Writing.{written, taken, padded}
 use Rattle.tw_bits.proofs.Laws.{bits_number-number_bits}
 
--- two writings, the second right after the first, are one writing of both lists
+-- two writes, the second directly after the first, are one write of both lists
 pub written_two : (at : ℕ) (xs ys old : List Bool) → at + length xs ≤ length old → written (at + length xs) ys (written at xs old) ≡ written at (xs ++ ys) old
 written_two at xs ys old fits =
     let before : List Bool = take at old in
@@ -31,15 +31,15 @@ written_two at xs ys old fits =
 pub taken_first : (at m n : ℕ) (bits : List Bool) → take m (taken at (m + n) bits) ≡ taken at m bits
 taken_first at m n bits = take-take m (m + n) (drop at bits) (omega arith)
 
--- and the second part
+-- and its second part
 pub taken_second : (at m n : ℕ) (bits : List Bool) → drop m (taken at (m + n) bits) ≡ taken (at + m) n bits
 taken_second at m n bits = drop-take m n (drop at bits) ∙ ap (take n) (drop-drop m at bits)
 
--- as many bits are taken as are asked for, if there are so many
+-- `taken` has the length that is asked for, if the list has that many bits
 pub length-taken : (at len : ℕ) (bits : List Bool) → at + len ≤ length bits → length (taken at len bits) ≡ len
 length-taken at len bits within = length-take-le len (drop at bits) (rw length-drop (omega (arith, within)))
 
--- one bit taken is the one at its place
+-- one bit that is taken is the bit at its place
 pub bit_at-taken : (at : ℕ) (bits : List Bool) → bit_at (taken at 1 bits) 0 ≡ bit_at bits at
 bit_at-taken zero [] = refl
 bit_at-taken zero (bit ∷ bits) = refl
@@ -54,6 +54,6 @@ number_of_bits width n bits fits same = sym (bits_number-number_bits width n fit
 pub length-padded : (len : ℕ) (bits : List Bool) → length bits ≤ len → length (padded len bits) ≡ len
 length-padded len bits fits = rw (length-append, length-replicate) (omega arith)
 
--- the padding by its length
+-- the padding, by its length
 pub padded-by : (len k : ℕ) (bits : List Bool) → len ≡ length bits + k → padded len bits ≡ bits ++ replicate k false
 padded-by len k bits more = let rest : len - length bits ≡ k = omega arith in rw rest

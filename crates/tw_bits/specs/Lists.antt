@@ -1,13 +1,13 @@
 -- Bits of a list: the one at a place, and the list with that one flipped.
 use Rattle.std.specs.Prelude.{◌≡◌, ℕ, zero, suc, Bool, true, false, not, List, [], ◌∷◌, refl}
 
--- the bit at a place; past the end it is 0
+-- the bit at a place; 0 past the end
 abbrev pub bit_at : List Bool → ℕ → Bool
 bit_at [] place = false
 bit_at (b ∷ bits) zero = b
 bit_at (b ∷ bits) (suc place) = bit_at bits place
 
--- the bits with the one at a place flipped; past the end none is
+-- the bits with the one at a place flipped; unchanged if the place is past the end
 abbrev pub flipped : List Bool → ℕ → List Bool
 flipped [] place = []
 flipped (b ∷ bits) zero = not b ∷ bits

@@ -1,4 +1,4 @@
--- The operators on numbers of so many bits, by arithmetic on unbounded numbers.
+-- The operators on numbers of a width in bits, by arithmetic on unbounded numbers.
 use Rattle.std.specs.Prelude.{◌≡◌, ℕ, ◌+◌, ◌-◌, ◌*◌, ◌%◌, ◌^◌, ◌==◌, nat_lt, Bool, true, false, refl}
 
 -- the sum, modulo 2^width

@@ -1,11 +1,11 @@
 -- Parts of a list of bits: overwritten, read, and padded with zeros.
 use Rattle.std.specs.Prelude.{◌≡◌, ℕ, ◌+◌, ◌-◌, Bool, true, false, List, [], ◌∷◌, ◌++◌, length, take, drop, replicate, refl}
 
--- the bits, with new ones in place of as many from a place on
+-- the bits, with new ones that replace as many from a place on
 abbrev pub written : ℕ → List Bool → List Bool → List Bool
 written at new old = take at old ++ (new ++ drop (at + length new) old)
 
--- so many of the bits, from a place on
+-- this number of bits, from a place on
 abbrev pub taken : ℕ → ℕ → List Bool → List Bool
 taken at len bits = take len (drop at bits)
 

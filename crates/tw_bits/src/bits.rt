@@ -1,3 +1,4 @@
+//! Lists of bits of a fixed length.
 ghost use Rattle.std.specs.Prelude.{◌≡◌, ◌<◌, ◌≤◌, ◌+◌, ◌^◌, ◌++◌, false, length, replicate, take, drop, IfOk};
 ghost use Rattle.tw_bits.specs.Lists.{bit_at, flipped};
 ghost use Rattle.tw_bits.specs.Numbers.{number_bits};
@@ -9,8 +10,8 @@ use std::marker::Model;
 /// The number of bits of a word.
 const WORD: usize = 64;
 
-/// A list of bits of a fixed length, with places from 0. Bit `i` is bit `i % 64` of word `i / 64`, where bit 0 of a
-/// word is its least. At least one more word follows those that hold bits, so that two words can be read at each place.
+/// A list of bits of a fixed length, with places from 0. Bit `i` is bit `i % 64` of word `i / 64`, where bit 0 of a word is its
+/// least. At least one more word follows the words that hold bits, so that two words can be read at each place.
 #[derive(Drop)]
 pub struct Bits {
     words: Vec<u64>,
@@ -30,7 +31,7 @@ impl Model for Bits {
 }
 
 impl Bits {
-    /// A list of `n` zeros. An error: there is no memory for it.
+    /// A list of `n` zeros. An error: out of memory.
     pub fn zeros(alloc: Global, n: usize) -> Result<Bits, AllocError>
         ensures { IfOk result (λ bits. bits ≡ replicate n false) }
     {
@@ -64,7 +65,7 @@ impl Bits {
         flip_word(&mut self.words, i / WORD, 1 << (i % WORD));
     }
 
-    /// The number in the `len` bits from `off` on, whose least bit is the one at `off`.
+    /// The number in the `len` bits from `off` on. Its least bit is the bit at `off`.
     /// `len` is at most 64, and the bits lie within the list.
     pub fn number_at(&self, off: usize, len: u32) -> u64
         requires word { len ≤ 64 }
@@ -76,7 +77,7 @@ impl Bits {
         (from_off % (1 << len)) as u64
     }
 
-    /// Writes a number into the `len` bits from `off` on, its least bit at `off`, and changes no other bit.
+    /// Writes a number into the `len` bits from `off` on, with its least bit at `off`. Changes no other bit.
     /// `len` is at most 64, the bits lie within the list, and the number is below `2^len`.
     pub fn put_number(&mut self, off: usize, len: u32, value: u64)
         requires word { len ≤ 64 }

@@ -1,6 +1,6 @@
-//! Lists of bits, kept in machine words.
-//! The definitions of `specs/` say what the bit at a place is, which bits a number has, least bit first, and what the
-//! operators on numbers of a fixed width are; `proofs/Laws.antt` has the laws of bits and of numbers as bits.
+//! Lists of bits, stored in machine words.
+//! The definitions of `specs/` give the bit at a place, the bits of a number, least bit first, and the operators on numbers of a
+//! fixed width. `proofs/Laws.antt` has the laws of bits and of numbers as bits.
 #![tactic(auto)]
 
 mod bits;

@@ -1,7 +1,8 @@
+//! Flips of bits, and numbers written into lists of bits and read again.
 use crate::Bits;
 use std::alloc::AllocError;
 
-/// The bits are 1 at these places alone.
+/// The bits are 1 at these places, and 0 at all others.
 fn has_ones(bits: &Bits, ones: &[usize]) -> bool {
     (0..bits.len()).all(|i| bits.get(i) == ones.contains(&i))
 }

@@ -1,4 +1,4 @@
-//! Words as one number, whose digits to the base `2^64` they are, least word first.
+//! Words as one number: the words are its digits to the base `2^64`, least word first.
 ghost use Rattle.std.specs.Prelude.{◌≡◌, ◌<◌, ◌+◌, ◌*◌, ◌/◌, ◌%◌, ◌^◌, bit_xor, length};
 ghost use Rattle.tw_bits.specs.Words.{words_number};
 

@@ -14,7 +14,7 @@ use Rattle.tw_state.proofs.Sizes.{length-variable_bits}
 use Rattle.tw_state.proofs.Stores.{bytes_eq-different, bytes_eq-same}
 use Rattle.tw_frames.specs.Layout.{variables_size, wire_from}
 
--- variables that a store has, have as many bits as their types
+-- variables that a store has fill as many bits as their types
 pub length-variables_bits : (widths : Widths) (store : Store) (variables : List Variable) → AllByRecursion (HasVariable widths store) variables → length (flat_map (variable_bits widths store) variables) ≡ variables_size widths variables
 length-variables_bits widths store [] all = refl
 length-variables_bits widths store (variable ∷ variables) all =
@@ -39,7 +39,7 @@ bit_at-length : (prefix suffix : List Bool) (bit : Bool) → bit_at (prefix ++ b
 bit_at-length [] suffix bit = refl
 bit_at-length (b ∷ prefix) suffix bit = bit_at-length prefix suffix bit
 
--- the bit of a truth value lies at the wire of its name, whatever comes before and after the variables
+-- the bit of a truth value lies at the wire of its name, whatever precedes and follows the variables
 pub bit_at-wire_from : (widths : Widths) (store : Store) (more : List Variable) (name : Name) (is : Bool) → store name ≡ Some (Truth is) → (variables : List Variable) → AllByRecursion (HasVariable widths store) variables → Contains (map (λ v. v.name) variables) name → (prefix suffix : List Bool) → bit_at (prefix ++ (flat_map (variable_bits widths store) variables ++ suffix)) (wire_from widths (length prefix) (variables ++ more) name) ≡ is
 bit_at-wire_from widths store more name is value [] all known prefix suffix = absurd (omega (arith, known.1))
 bit_at-wire_from widths store more name is value (variable ∷ variables) all known prefix suffix =
@@ -64,7 +64,7 @@ wire_from-after widths variable more [] fresh first = rw (bytes_eq-same variable
 wire_from-after widths variable more (other ∷ variables) fresh first =
     rw (bytes_eq-different other.name variable.name fresh.0, wire_from-after widths variable more variables fresh.1 (first + size widths other.ty)) (omega arith)
 
--- the wire of a known name is one of the variables' wires, where each variable has one bit
+-- the wire of a known name is one of the variables' wires, if each variable has one bit
 pub wire_from-within : (widths : Widths) (more : List Variable) (name : Name) (variables : List Variable) → AreBoolean variables → Contains (map (λ v. v.name) variables) name → (first : ℕ) → (first ≤ wire_from widths first (variables ++ more) name) × (wire_from widths first (variables ++ more) name < first + variables_size widths variables)
 wire_from-within widths more name [] all known first = absurd (omega (arith, known.1))
 wire_from-within widths more name (variable ∷ variables) all known first =

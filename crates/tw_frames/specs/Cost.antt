@@ -3,7 +3,7 @@ use Rattle.std.specs.Prelude.{◌≡◌, ℕ, ◌+◌, ◌*◌, List, [], ◌∷
 use Rattle.tw_gate.specs.Weight.{weight}
 use Rattle.tw_state.specs.Programs.{Atom, Var, And, Expr, Binary, Stmt, Skip, Then, Let}
 
--- a number of X gates that have so many controls each
+-- a number of X gates with this number of controls each
 pub record Row : Type 0 where
   pub number : ℕ
   pub controls : ℕ
@@ -11,19 +11,19 @@ pub record Row : Type 0 where
 abbrev pub row : ℕ → ℕ → Row
 row number controls = record { number = number; controls = controls }
 
--- the gates that load an operand into scratch: one for each of its bits
+-- the gates that load an operand into scratch: one gate for each bit
 abbrev pub loads : Atom → List Row
 loads (Var name) = row 1 1 ∷ []
 
--- each row twice, for what is computed and later uncomputed
+-- each row twice: once to compute, once to uncompute
 abbrev pub twice : List Row → List Row
 twice rows = rows ++ rows
 
--- the gates of an expression under so many controls
+-- the gates of an expression under this number of controls
 abbrev pub expr_inventory : Expr → ℕ → List Row
 expr_inventory (Binary And left right) controls = twice (loads left ++ loads right) ++ row 1 (2 + controls) ∷ []
 
--- the gates of a statement under so many controls
+-- the gates of a statement under this number of controls
 abbrev pub inventory : Stmt → ℕ → List Row
 inventory Skip controls = []
 inventory (Then first rest) controls = inventory first controls ++ inventory rest controls

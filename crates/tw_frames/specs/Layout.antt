@@ -34,7 +34,7 @@ abbrev pub layout_of : Widths → List Target → Function → WireLayout
 layout_of widths targets function =
     regions widths (block_size widths targets) (variables_size widths function.parameters) (size widths function.result.ty) (scratch_size function.body)
 
--- the first wire of a variable, where the variables lie in this order from a wire on; past them for another name
+-- the first wire of a variable, if the variables lie in this order from a wire on; the wire after them for another name
 abbrev pub wire_from : Widths → ℕ → List Variable → Name → ℕ
 wire_from widths first [] name = first
 wire_from widths first (variable ∷ variables) name =

@@ -1,3 +1,4 @@
+//! The regions of the wires of a function.
 ghost use Rattle.std.specs.Prelude.{◌≡◌, ◌≤◌, ◌+◌, ◌^◌};
 ghost use Rattle.tw_frames.specs.Layout.{regions};
 

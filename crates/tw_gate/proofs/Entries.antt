@@ -1,4 +1,4 @@
--- Lists of gates as entries and a pool: what a pool that grew, a push and an inverse do to the gates.
+-- Lists of gates as entries and a pool: how a longer pool, a push and an inverse change the gates.
 use Rattle.std.proofs.Common.{◌≡◌, ◌∙◌, ap, ℕ, ◌+◌, ◌-◌, ◌≤◌, List, [], ◌∷◌, ◌++◌, length, map, reverse, take, drop, slice_range, refl, arith, length-append, length-drop}
 use Rattle.std.proofs.lemmas.List.{drop-append-le, take-append-le, map-append, reverse-append}
 use Rattle.std.specs.List.{AllByRecursion}
@@ -14,7 +14,7 @@ slice_range-append xs ys from to order within =
     let ends : to - from ≤ length (drop from xs) = omega (arith, length-drop from xs, order, within) in
     ap (take (to - from)) (drop-append-le from xs ys begins) ∙ take-append-le (to - from) (drop from xs) ys ends
 
--- a pool that grows leaves the gates of its entries
+-- a longer pool leaves the gates of the entries
 gate_of-grown : (pool more : List ℕ) (entry : Entry) → LiesWithin (length pool) entry → gate_of (pool ++ more) entry ≡ gate_of pool entry
 gate_of-grown pool more entry within =
     ap (λ (controls : List ℕ). gate_with entry.kind controls entry.wire) (slice_range-append pool more entry.from (entry.from + entry.controls) (omega arith) within)
@@ -27,7 +27,7 @@ within_push : (small large : ℕ) (xs : List Entry) (entry : Entry) → small �
 within_push small large [] entry more within last = (last, tt)
 within_push small large (x ∷ xs) entry more within last = (omega (arith, within.0, more), within_push small large xs entry more within.1 last)
 
--- controls that no entry names leave the gates
+-- controls that no entry names do not change the gates
 pub gates_unnamed : (pool more grown : List ℕ) (xs : List Entry) → grown ≡ pool ++ more → AllByRecursion (LiesWithin (length pool)) xs → map (gate_of grown) xs ≡ map (gate_of pool) xs
 gates_unnamed pool more grown xs e within = rw e (gates_of-grown pool more xs within)
 

@@ -61,7 +61,7 @@ all_push : (P : PlainGate → Type 0) (gates : List PlainGate) (gate : PlainGate
 all_push P [] gate all last = (last, tt)
 all_push P (first ∷ gates) gate all last = (all.0, all_push P gates gate all.1 last)
 
--- what holds of the gates, and with each gate of its inverse, holds of the inverse gates
+-- a property of the gates that each gate shares with its inverse is a property of the inverse gates
 pub all_inverse : (P : PlainGate → Type 0) → ((gate : PlainGate) → P gate → P (inverse_gate gate)) → (gates : List PlainGate) → AllByRecursion P gates → AllByRecursion P (inverse gates)
 all_inverse P kept [] all = tt
 all_inverse P kept (gate ∷ gates) all = all_push P (inverse gates) (inverse_gate gate) (all_inverse P kept gates all.1) (kept gate all.0)
@@ -72,7 +72,7 @@ spares-inverse_gate (H wire) spares = tt
 spares-inverse_gate (T wire) spares = tt
 spares-inverse_gate (Tdg wire) spares = tt
 
--- the gates undo their inverse
+-- the gates undo the inverse gates
 pub act-uninverse : (gates : List PlainGate) (bits : List Bool) → AllByRecursion SparesControls gates → act gates (act (inverse gates) bits) ≡ bits
 act-uninverse gates bits spare =
     ap (λ (twice : List PlainGate). act twice (act (inverse gates) bits)) (sym (inverse-twice gates))

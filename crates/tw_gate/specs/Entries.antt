@@ -1,4 +1,4 @@
--- How a list keeps its gates: entries, and one pool with the controls of all of them.
+-- How a list stores its gates: entries, and one pool with the controls of all of them.
 use Rattle.std.specs.Prelude.{◌≡◌, ℕ, ◌+◌, ◌≤◌, List, [], ◌∷◌, map, slice_range, refl}
 use Rattle.tw_gate.specs.declared.list.Kind.{Kind}
 use Rattle.tw_gate.specs.declared.list.Kind.TheVariants as kind
@@ -12,7 +12,7 @@ gate_with kind.H controls wire = H wire
 gate_with kind.T controls wire = T wire
 gate_with kind.Tdg controls wire = Tdg wire
 
--- the gate of an entry, with its part of the pool as controls
+-- the gate of an entry, whose controls are its part of the pool
 abbrev pub gate_of : List ℕ → Entry → PlainGate
 gate_of pool entry = gate_with entry.kind (slice_range pool entry.from (entry.from + entry.controls)) entry.wire
 
@@ -20,7 +20,7 @@ gate_of pool entry = gate_with entry.kind (slice_range pool entry.from (entry.fr
 abbrev pub LiesWithin : ℕ → Entry → Type 0
 LiesWithin size entry = entry.from + entry.controls ≤ size
 
--- the kind of the inverse gate: T and its inverse change places
+-- the kind of the inverse gate: T and its inverse are exchanged
 abbrev pub inverse_kind : Kind → Kind
 inverse_kind kind.T = kind.Tdg
 inverse_kind kind.Tdg = kind.T

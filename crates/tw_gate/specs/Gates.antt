@@ -13,14 +13,14 @@ pub data PlainGate : Type 0 where
   T : (wire : ℕ) → PlainGate
   Tdg : (wire : ℕ) → PlainGate
 
--- a gate of the code, without where its controls lie in memory
+-- a gate of the code, without the address of its controls in memory
 abbrev pub plain : Gate → PlainGate
 plain (given.X controls target) = X controls.now target
 plain (given.H wire) = H wire
 plain (given.T wire) = T wire
 plain (given.Tdg wire) = Tdg wire
 
--- whether all of these wires are 1
+-- whether all these wires are 1
 abbrev pub all_one : List ℕ → List Bool → Bool
 all_one [] bits = true
 all_one (wire ∷ wires) bits = bit_at bits wire && all_one wires bits
@@ -35,7 +35,7 @@ abbrev pub act : List PlainGate → List Bool → List Bool
 act [] bits = bits
 act (gate ∷ gates) bits = act gates (act_gate gate bits)
 
--- the inverse of a gate: T and its inverse change places, the others undo themselves
+-- the inverse of a gate: T and its inverse are exchanged, the others are their own inverses
 abbrev pub inverse_gate : PlainGate → PlainGate
 inverse_gate (T wire) = Tdg wire
 inverse_gate (Tdg wire) = T wire
@@ -46,7 +46,7 @@ abbrev pub inverse : List PlainGate → List PlainGate
 inverse [] = []
 inverse (gate ∷ gates) = inverse gates ++ inverse_gate gate ∷ []
 
--- the controls of a gate; only X gates have any
+-- the controls of a gate; only X gates have controls
 abbrev pub controls_of : PlainGate → List ℕ
 controls_of (X controls target) = controls
 controls_of _ = []
@@ -82,20 +82,20 @@ abbrev pub IsClassical : PlainGate → Type 0
 IsClassical (X controls target) = Unit {0}
 IsClassical _ = ⊥
 
--- the gates are X gates, and permute the lists of so many bits: these stay as long, and the gates and their inverse undo each
--- other
+-- The gates are X gates, and permute the lists of this number of bits: they keep the length, and the gates and their inverse undo
+-- each other.
 pub record IsPermutation (wires : ℕ) (gates : List PlainGate) : Type 0 where
   pub classical : AllByRecursion IsClassical gates
   pub wide : (bits : List Bool) → length bits ≡ wires → length (act gates bits) ≡ wires
   pub undone : (bits : List Bool) → act (inverse gates) (act gates bits) ≡ bits
   pub undoes : (bits : List Bool) → act gates (act (inverse gates) bits) ≡ bits
 
--- the gates of a list, or if the Bool is true those of its inverse
+-- the gates of a list, or if the Bool is true its inverse
 abbrev pub directed : Bool → List PlainGate → List PlainGate
 directed true gates = inverse gates
 directed false gates = gates
 
--- five gates that flip wire 4 exactly where wires 2 and 5 differ and wires 3 and 6 differ
+-- five gates that flip wire 4 exactly if wires 2 and 5 differ and wires 3 and 6 differ
 abbrev pub example : List PlainGate
 example =
     X (2 ∷ []) 5

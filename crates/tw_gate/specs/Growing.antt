@@ -3,15 +3,15 @@ use Rattle.std.proofs.Common.{◌∙◌, ap, sym, List, [], ◌++◌, append_ass
 use Rattle.tw_gate.specs.Gates.{PlainGate}
 use Rattle.tw_gate.specs.Taking.{Grew, GrewFront}
 
--- a list that stays as it is took nothing
+-- an unchanged list took nothing
 pub grew_none : (a : List PlainGate) → Grew a a []
 grew_none a = sym (append-nil a)
 
--- xs, then ys, is both
+-- xs taken, then ys, is both taken
 pub grew_both : (a b c xs ys : List PlainGate) → Grew a b xs → Grew b c ys → Grew a c (xs ++ ys)
 grew_both a b c xs ys first second = second ∙ ap (λ (front : List PlainGate). front ++ ys) first ∙ append_assoc a xs ys
 
--- xs, then a prefix of ys, is a prefix of both
+-- xs taken, then a prefix of ys, is a prefix of both taken
 pub grew_front_later : (a b c xs ys : List PlainGate) → Grew a b xs → GrewFront b c ys → GrewFront a c (xs ++ ys)
 grew_front_later a b c xs ys first part = record {
   front = xs ++ part.front;
@@ -29,6 +29,6 @@ grew_front_longer a b xs ys part = record {
   grew = part.grew;
 }
 
--- a list that stays as it is took a prefix of every list
+-- an unchanged list took a prefix of every list
 pub grew_front_none : (a xs : List PlainGate) → GrewFront a a xs
 grew_front_none a xs = record { front = []; rest = xs; split = refl; grew = grew_none a }

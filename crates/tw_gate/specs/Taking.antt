@@ -4,8 +4,9 @@ use Rattle.tw_io.specs.Devices.{Rose}
 use Rattle.tw_gate.specs.declared.out.Stopped.{Stopped}
 use Rattle.tw_gate.specs.Gates.{PlainGate, T, H}
 
--- what a call that gives gates to a taker did: Ok took them all and keeps the taker's fault counter; Stopped broke in them, and the
--- counter rose
+-- What a call that gives gates to a taker did. On Ok the taker took them all, and its fault counter is unchanged.
+-- If the taker stopped, it broke in them, and its fault counter rose.
+-- broke in them, and its fault counter rose.
 pub record Gave {O : Type 0} (took broke : O → O → List PlainGate → Type 0) (faults : O → ℕ) (old new : O) (result : Result (Unit {0}) Stopped) (gates : List PlainGate) : Type 0 where
   pub whole : OnOk result (took old new gates)
   pub broken : OnErr result (broke old new gates)

@@ -3,7 +3,7 @@ use Rattle.std.specs.Prelude.{◌≡◌, ℕ, zero, suc, ◌+◌, ◌-◌, ◌*�
 use Rattle.tw_gate.specs.declared.gate.TheConstants.{TOFFOLI_T_COUNT}
 use Rattle.tw_gate.specs.Gates.{PlainGate, X, H, T, Tdg, example}
 
--- the T-count of an X gate by its number of controls: c controls, of two or more, take 2c - 3 Toffolis
+-- the T-count of an X gate, by its number of controls; c controls, of two or more, take 2c - 3 Toffolis
 abbrev pub weight : ℕ → ℕ
 weight zero = 0
 weight (suc zero) = 0

@@ -20,8 +20,8 @@ fn are_one(wires: &[u32], bits: &Bits) -> bool
     true
 }
 
-/// Applies a gate to bits, one for each wire from 0: an X gate flips the bit of its target exactly if all its controls are 1.
-/// The other gates change no bits. All wires of the gate are below the number of bits. It takes no memory.
+/// Applies a gate to bits, one for each wire from 0. An X gate flips the bit of its target exactly if all its controls are 1.
+/// The other gates change no bits. All wires of the gate are below the number of bits. Does not allocate.
 pub fn apply(gate: &Gate, bits: &mut Bits)
     requires { HasWiresBelow (length bits.old) (plain gate.now) }
     ensures bits { bits.new ≡ act_gate (plain gate.now) bits.old }
@@ -37,7 +37,7 @@ pub fn apply(gate: &Gate, bits: &mut Bits)
     }
 }
 
-/// Applies the gates of a list to bits, in order. All wires of the gates are below the number of bits. It takes no memory.
+/// Applies the gates of a list to bits, in order. All wires of the gates are below the number of bits. Does not allocate.
 pub fn apply_list(list: &GateList, bits: &mut Bits)
     requires { AllByRecursion (HasWiresBelow (length bits.old)) list.now }
     ensures bits { bits.new ≡ act list.now bits.old }

@@ -1,3 +1,4 @@
+//! Gates, their inverses and their T-counts.
 ghost use Rattle.std.specs.Prelude.{◌≡◌, ◌≤◌, ◌^◌, length};
 ghost use Rattle.tw_gate.specs.Gates.{plain, inverse_gate, controls_of};
 ghost use Rattle.tw_gate.specs.Weight.{weight, gate_weight};
@@ -5,7 +6,7 @@ ghost use Rattle.tw_gate.specs.Weight.{weight, gate_weight};
 /// The T-count of a Toffoli, an X gate of two controls.
 pub const TOFFOLI_T_COUNT: u64 = 7;
 
-/// Which kinds of gates a file may hold.
+/// The level of a file: which kinds of gates it may have.
 #[derive(Debug, Clone, Copy, PartialEq, Eq)]
 pub enum Level {
     /// X gates of at most 64 controls.
@@ -31,7 +32,7 @@ pub enum Gate<'g> {
 }
 
 impl<'g> Gate<'g> {
-    /// The gate that undoes this one, on the same wires: T and its inverse change places, and the other kinds undo themselves.
+    /// The inverse gate, on the same wires: T and its inverse are exchanged, and the other kinds are their own inverses.
     pub fn inverse(self) -> Gate<'g>
         ensures { plain result ≡ inverse_gate (plain self.entry) }
     {
@@ -42,8 +43,8 @@ impl<'g> Gate<'g> {
         }
     }
 
-    /// Its T-count: 1 for T and its inverse; 0 for Hadamard gates and X gates of at most one control; for an X gate of `c` controls,
-    /// from 2 to `2^32`, that of `2c - 3` Toffolis. docs/CIRCUITS.md has the source.
+    /// Its T-count: 1 for T and its inverse; 0 for Hadamard gates and X gates of at most one control.
+    /// For an X gate of `c` controls, from 2 to `2^32`, the T-count of `2c - 3` Toffolis. docs/CIRCUITS.md has the source.
     pub fn t_count(&self) -> u64
         requires { length (controls_of (plain self.now)) ≤ 2 ^ 32 }
         ensures { result ≡ gate_weight (plain self.now) }
@@ -56,7 +57,7 @@ impl<'g> Gate<'g> {
     }
 }
 
-/// The T-count of an X gate of so many controls.
+/// The T-count of an X gate of this number of controls.
 fn weight(controls: u64) -> u64
     requires { controls ≤ 2 ^ 32 }
     ensures { result ≡ weight controls }

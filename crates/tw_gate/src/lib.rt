@@ -1,5 +1,5 @@
-//! Gates on wires, which are numbered from 0, lists of them, what they do to bits, and what takes them.
-//! The definitions of `specs/` say what a list of gates does to bits, what its inverse is, and what its T-count is.
+//! Gates on wires, which are numbered from 0; lists of gates, what they do to bits, and takers of gates.
+//! The definitions of `specs/` give the action of a list of gates on bits, its inverse, and its T-count.
 #![tactic(auto)]
 
 mod acting;

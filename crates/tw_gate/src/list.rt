@@ -1,4 +1,4 @@
-//! Lists of gates, kept in two vectors: the entries in order, and one pool with the controls of all of them.
+//! Lists of gates, stored in two vectors: the entries in order, and one pool with the controls of all of them.
 ghost use Rattle.std.specs.Prelude.{◌≡◌, ◌<◌, ◌≤◌, Bool, List, [], ◌∷◌, ◌++◌, length, map, reverse, slice_get, Some, is_ok, if◌then◌else◌, IfOk, OnOk, OnErr};
 ghost use Rattle.std.specs.List.{AllByRecursion};
 ghost use Rattle.tw_gate.specs.Gates.{plain, controls_of, act, inverse, SparesControls};
@@ -29,7 +29,7 @@ impl Kind {
     }
 }
 
-/// A gate of a list, in 12 bytes: its kind, its target or wire, and where its controls lie in the pool.
+/// A gate of a list, in 12 bytes: its kind, its target or wire, and the position of its controls in the pool.
 #[derive(Debug, Clone, Copy)]
 struct Entry {
     kind: Kind,
@@ -83,7 +83,7 @@ impl Model for GateList {
 }
 
 impl GateList {
-    /// The empty list. It takes no memory yet.
+    /// The empty list. Does not allocate.
     pub fn new(alloc: Global) -> GateList
         ensures { result ≡ [] }
     {
@@ -93,8 +93,8 @@ impl GateList {
         }
     }
 
-    /// Appends a gate, of any number of controls in any order. An error: out of memory, or more controls than a list holds (65,535 of
-    /// one gate, `2^32` of all); the list stays as it was.
+    /// Appends a gate, of any number of controls in any order.
+    /// An error: out of memory, or more controls than a list holds (65,535 of one gate, `2^32` of all). The list is unchanged.
     pub fn push(&mut self, gate: &Gate) -> Result<(), AllocError>
         ensures appended { OnOk result (self.new ≡ self.old ++ plain gate.now ∷ []) }
         ensures unchanged { OnErr result (self.new ≡ self.old) }
@@ -104,7 +104,7 @@ impl GateList {
         Ok(())
     }
 
-    /// How many gates there are.
+    /// The number of gates.
     pub fn len(&self) -> usize
         ensures { result ≡ length self.now }
     {
@@ -130,9 +130,9 @@ impl GateList {
     }
 }
 
-/// Appends the controls of a gate to the pool, and gives the entry that names them there.
+/// Appends the controls of a gate to the pool, and returns the entry that names them there.
 ///
-/// An error: out of memory, or more controls than an entry names; the pool stays as it was.
+/// An error: out of memory, or more controls than an entry names. Then the pool is unchanged.
 fn pool_controls(pool: &mut Vec<u32>, gate: &Gate) -> Result<Entry, AllocError>
     ensures grown { pool.new.items ≡ (if is_ok result then pool.old.items ++ controls_of (plain gate.now) else pool.old.items) }
     ensures within { IfOk result (LiesWithin (length pool.new.items)) }
@@ -158,7 +158,7 @@ fn pool_controls(pool: &mut Vec<u32>, gate: &Gate) -> Result<Entry, AllocError>
     }
 }
 
-/// Turns a list into its inverse: the gates in reverse order, with T and its inverse exchanged. It takes no memory.
+/// Turns a list into its inverse: the gates in reverse order, with T and its inverse exchanged. Does not allocate.
 ///
 /// If no target is among the controls of its gate, the list and its inverse undo each other on all bits.
 pub fn invert(list: &mut GateList)

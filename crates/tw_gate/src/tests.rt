@@ -1,3 +1,4 @@
+//! Gates on concrete bits, lists and their inverses, and a taker that stops.
 ghost use Rattle.std.specs.Prelude.{◌≡◌, ◌≤◌, [], ◌∷◌, ⊤, length, IfOk};
 ghost use Rattle.tw_gate.specs.Gates.{plain};
 ghost use Rattle.tw_gate.specs.Taking.{Gave, Grew, GrewFront};

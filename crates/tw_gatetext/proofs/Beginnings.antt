@@ -1,4 +1,4 @@
--- Bytes that begin with a file: which file, how much of them it takes, and that they are not refused.
+-- Bytes that begin with a file: which file, its length, and that they are not refused.
 use Rattle.std.proofs.Common.{◌≡◌, ◌≢◌, ◌∙◌, ap, sym, ℕ, ◌+◌, ◌-◌, ◌≤◌, List, length, drop, ◌⊎◌, inl, inr, arith, length-append}
 use Rattle.std.proofs.Math.Seq.{drop-append_seam}
 use Rattle.tw_gatetext.specs.declared.file.GateFault.{GateFault}
@@ -22,13 +22,13 @@ shorter bytes file rest begins = omega (arith, lengths bytes file rest begins)
 pub size : (bytes : List ℕ) (file : File) (rest : List ℕ) → BeginsWith bytes file rest → length bytes - length rest ≡ length (file_text file)
 size bytes file rest begins = omega (arith, lengths bytes file rest begins)
 
--- the rest is what follows so many bytes
+-- the rest is the suffix after this number of bytes
 pub dropped : (bytes : List ℕ) (file : File) (rest : List ℕ) → BeginsWith bytes file rest → BeginsWith bytes file (drop (length bytes - length rest) bytes)
 dropped bytes file rest begins =
     let behind = ap (λ (n : ℕ). drop n bytes) (size bytes file rest begins) ∙ ap (drop (length (file_text file))) begins.text ∙ drop-append_seam (file_text file) rest in
     rw behind begins
 
--- what ends the reading but memory is a refusal
+-- if reading ends without a file and memory does not run out, the bytes are refused
 refusal : (bytes : List ℕ) (why : GateFault) → (why ≡ fault.Memory) ⊎ IsRefusedText bytes why → why ≢ fault.Memory → IsRefusedText bytes why
 refusal bytes why (inl memory) other = absurd (other memory)
 refusal bytes why (inr refused) other = refused

@@ -1,4 +1,4 @@
--- Right lines behind the header, and lines that are none.
+-- Right lines after the header, and lines that are not right.
 use Rattle.std.proofs.Common.{◌≡◌, ◌∙◌, ap, sym, ℕ, ◌<◌, ◌≤◌, ◌^◌, List, [], ◌∷◌, ◌++◌, length, None, refl, arith}
 use Rattle.std.proofs.lemmas.Bool.Decides.{nat_tests}
 use Rattle.std.proofs.lemmas.List.{length_push}
@@ -25,7 +25,7 @@ letters-no_space (H wire) = (omega arith, tt)
 letters-no_space (T wire) = (omega arith, tt)
 letters-no_space (Tdg wire) = (omega arith, (omega arith, (omega arith, tt)))
 
--- how many numbers the line of a gate has
+-- the number of numbers on the line of a gate
 count : (gate : PlainGate) → HasFewControls gate → (1 ≤ length (numbers_of gate)) × (length (numbers_of gate) ≤ MOST_NUMBERS)
 count (X [] target) few = (omega arith, omega arith)
 count (X (a ∷ []) target) few = (omega arith, omega arith)
@@ -40,7 +40,7 @@ line_numbers level wires gate few level_fits fits =
     let counted = count gate (HasFewControls-fits level gate level_fits) in
     record { some = counted.0; few = counted.1; small = numbers_below (2 ^ 32) level wires gate (omega arith) (omega arith) level_fits fits }
 
--- the word and the numbers of a line are those of no gate that fits
+-- no gate that fits has this word and these numbers
 abbrev pub FitsNone : Head → List ℕ → List ℕ → Type 0
 FitsNone head word ns = (gate : PlainGate) → FitsLevel head.level gate → FitsWires head.wires gate → word ≡ letters gate → ¬ (ns ≡ numbers_of gate)
 
@@ -50,14 +50,14 @@ no_gate head gates bytes text rest next more none parts (OfGate gate less level 
     none gate level wires (parts ∙ ap (λ (t : List ℕ). t ++ rest) is ∙ line-letters gate rest)
 no_gate head gates bytes text rest next more none parts (Last all is comes) = omega arith
 
--- bytes that begin with no line of a word and numbers go on with no right line before the last one
+-- bytes that do not begin with a line of a word and numbers do not begin with a right line before the last one
 pub no_words : (head : Head) (gates : List PlainGate) (bytes : List ℕ) → head.wires < 2 ^ 32 → length gates < head.gates → ((word ns rest : List ℕ) → HasNoSpace word → AreLineNumbers ns → ¬ IsLineOf bytes word ns rest)
     → (next : Progress) (rest : List ℕ) → ¬ StepsTo (InBody head gates) bytes next rest
 no_words head gates bytes few more none next rest step =
     no_gate head gates bytes step.text rest next more
     (λ gate level wires. none (letters gate) (numbers_of gate) rest (letters-no_space gate) (line_numbers head.level head.wires gate few level wires)) step.parts step.right
 
--- nor do bytes whose first line has the word and the numbers of no gate that fits
+-- neither do bytes whose first line has the word and the numbers of no gate that fits
 pub no_fit : (head : Head) (gates : List PlainGate) (bytes word ns behind : List ℕ) → head.wires < 2 ^ 32 → length gates < head.gates → HasNoSpace word → AreLineNumbers ns → IsLineOf bytes word ns behind → FitsNone head word ns
     → (next : Progress) (rest : List ℕ) → ¬ StepsTo (InBody head gates) bytes next rest
 no_fit head gates bytes word ns behind few more none are is fits next rest step =
@@ -76,7 +76,7 @@ gate_steps head gates gate bytes word ns rest more level wires letters_are numbe
       right = OfGate gate more level wires refl refl;
     }
 
--- the limit that is tried before the last line
+-- the limit that applies before the last line
 pub limit_before : (head : Head) (gates : List PlainGate) → length gates < head.gates → limit_at (InBody head gates) ≡ controls_limit head.level
 limit_before head gates more = grind (arith, nat_tests)
 

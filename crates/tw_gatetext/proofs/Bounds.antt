@@ -1,4 +1,4 @@
--- The numbers of a valid file are below 2 ^ 64, so its text tells it.
+-- The numbers of a valid file are below 2 ^ 64, so its text determines it.
 use Rattle.std.proofs.Common.{◌≡◌, ℕ, zero, suc, ◌<◌, ◌≤◌, ◌*◌, ◌^◌, List, [], ◌∷◌, ◌++◌, length, arith}
 use Rattle.std.specs.List.{AllByRecursion}
 use Rattle.tw_text.specs.declared.limits.TheConstants.{CONTROLS_LIMIT, WIRES_LIMIT}

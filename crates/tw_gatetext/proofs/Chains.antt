@@ -1,4 +1,5 @@
--- Right lines from the front of the bytes: so many of them lead to one place, and a longer chain passes through each shorter one.
+-- Chains of right lines from the start of the bytes. The number of lines determines where a chain ends, and a longer chain passes
+-- through each shorter one.
 use Rattle.std.proofs.Common.{◌≡◌, sym, subst, subst₂, ℕ, ◌<◌, List, inl, inr, refl, arith}
 use Rattle.std.proofs.lemmas.Bool.{cases_lt, cases_order}
 use Rattle.tw_gatetext.specs.Lines.{Progress, StepsTo, Reaches, Start, Line}
@@ -18,7 +19,7 @@ one_way bytes m n at at' rest rest' e (Line lines progress behind next after cha
     one_step progress behind next next' after after' (sound bytes lines progress behind chain) step
     (subst₂ (λ (s : Progress) (b : List ℕ). StepsTo s b next' after') (sym both.0) (sym both.1) step')
 
--- a line that a chain goes on with, behind so many lines
+-- a line that continues a chain after this number of lines
 pub record GoesBy (bytes : List ℕ) (lines : ℕ) : Type 0 where
   pub at : Progress
   pub behind : List ℕ
@@ -35,7 +36,7 @@ through bytes m n at rest less (Line lines progress behind next after chain step
       | inr all ↦ record { at = progress; behind = behind; next = next; rest = after; chain = subst (λ (k : ℕ). Reaches bytes k progress behind) (omega arith) chain; step = step }
     ]
 
--- where a longer chain goes on with a line, a shorter one does
+-- if a longer chain continues with a line, a shorter one does
 pub goes_on : (bytes : List ℕ) (m n : ℕ) (at at' : Progress) (rest rest' : List ℕ) → m < n → Reaches bytes m at rest → Reaches bytes n at' rest'
     → (next : Progress) × (behind : List ℕ) × StepsTo at rest next behind
 goes_on bytes m n at at' rest rest' less chain longer =

@@ -1,4 +1,4 @@
--- Where a word, a number or a line ends, and that a text tells them.
+-- The end of a word, a number or a line, and that a text determines them.
 use Rattle.std.proofs.Common.{◌≡◌, ◌∙◌, sym, ℕ, ◌<◌, ◌^◌, nat_eq, false, List, [], ◌∷◌, ◌++◌, decimal, codes, refl, append_assoc}
 use Rattle.std.proofs.lemmas.Bool.Decides.{Decides-eqb}
 use Rattle.std.specs.Char.{is_ascii_digit}
@@ -6,7 +6,7 @@ use Rattle.std.specs.List.{AllByRecursion}
 use Rattle.tw_gatetext.specs.Text.{spaced}
 use Rattle.tw_text.proofs.Decimals.{decimal-delimited}
 
--- the byte is in none of these
+-- the byte is not among these
 abbrev pub Lacks : ℕ → List ℕ → Type 0
 Lacks c word = AllByRecursion (λ b. nat_eq b c ≡ false) word
 
@@ -22,7 +22,7 @@ word-delimited c (a ∷ word) (b ∷ other) xs ys lacks lacks' e =
     let same = behind.0 in
     (cc, behind.1)
 
--- what stands behind a number begins with a byte that is no digit
+-- the text after a number begins with a byte that is no digit
 pub record Ends (text : List ℕ) : Type 0 where
   pub first : ℕ
   pub rest : List ℕ

@@ -1,4 +1,4 @@
--- Runs of digits at the front of a text, and what stands behind them.
+-- The digits that a text begins with, and the suffix after them.
 use Rattle.std.proofs.Common.{◌≡◌, ◌∙◌, ap, sym, ℕ, Bool, true, false, cond, List, [], ◌∷◌, ◌++◌, decimal, codes, Some, None, refl}
 use Rattle.std.specs.Char.{is_ascii_digit}
 use Rattle.std.proofs.lemmas.List.{append_cancel_left}
@@ -20,7 +20,7 @@ pub run-told : (n : ℕ) (bytes text : List ℕ) → Small n → Ends text → b
 run-told n bytes text small end e =
     ap digit_run (e ∙ ap (λ t. decimal n ++ t) end.is) ∙ digit_run-decimal n end.first end.rest small end.no_digit
 
--- the number that is read is the one that is written, where no digit follows it
+-- if no digit follows, the number that is read is the one that is written
 pub number-told : (n m : ℕ) (bytes rest text : List ℕ) → Small n → Small m → Ends text → digit_run bytes ≡ decimal m → bytes ≡ decimal m ++ rest → bytes ≡ decimal n ++ text → (n ≡ m) × (rest ≡ text)
 number-told n m bytes rest text small small' end run read e =
     let same = decimal_injective n m small small' (sym (run-told n bytes text small end e) ∙ run) in
@@ -59,7 +59,7 @@ numeral-shown bytes numeral rest is e =
     let run : digit_run bytes ≡ numeral = ap digit_run e ∙ digit_run-line numeral rest is.whole in
     shows_by_run numeral bytes is.number (is.whole ∙ sym run) is.shows
 
--- what stands behind the digits is what stands behind the numeral
+-- the suffix after the digits is the suffix after the numeral
 pub numeral-behind : (bytes digits behind numeral rest : List ℕ) → digits ≡ digit_run bytes → bytes ≡ digits ++ behind → IsNumeral numeral → bytes ≡ numeral ++ (codes "\n" ++ rest) → behind ≡ codes "\n" ++ rest
 numeral-behind bytes digits behind numeral rest run parts is e =
     let same : digits ≡ numeral = run ∙ ap digit_run e ∙ digit_run-line numeral rest is.whole in

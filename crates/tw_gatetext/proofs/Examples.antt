@@ -1,4 +1,4 @@
--- The worked example is a valid file, and which wires fit a line.
+-- The worked example is a valid file. Which wires fit a line.
 use Rattle.std.proofs.Common.{◌≡◌, ℕ, ◌<◌, [], ◌∷◌, refl, arith}
 use Rattle.tw_gate.specs.Gates.{X, H}
 use Rattle.tw_gatetext.specs.Text.{example_file}

@@ -1,4 +1,4 @@
--- Right lines of the header, and lines that are none.
+-- Right lines of the header, and lines that are not right.
 use Rattle.std.proofs.Common.{◌≡◌, ◌∙◌, ap, sym, subst, ℕ, ◌+◌, ◌<◌, ◌≤◌, ◌^◌, List, [], ◌++◌, codes, decimal, Option, Some, None, Bor, IfSome, refl, arith}
 use Rattle.std.specs.Option.{option_copied, IfNone}
 use Rattle.std.proofs.lemmas.List.{append_cancel_left}
@@ -19,7 +19,7 @@ use Rattle.tw_gatetext.proofs.Delimited.{decimal_line-delimited}
 use Rattle.tw_gatetext.proofs.DigitRuns.{not_after}
 use Rattle.tw_gatetext.proofs.RightLines.{valued}
 
--- what stands behind a front that was looked for
+-- the suffix after a prefix that was looked for
 pub after_some : (front bytes : List ℕ) (found : Option (Bor (List ℕ))) → option_copied found ≡ after front bytes → IfSome found (λ behind. bytes ≡ front ++ behind.now)
 after_some front bytes None is = tt
 after_some front bytes (Some behind) is = append-after front bytes behind.now (sym is)
@@ -28,21 +28,21 @@ pub after_none : (front bytes : List ℕ) (found : Option (Bor (List ℕ))) → 
 after_none front bytes None is = λ rest e. not_after front bytes rest is e
 after_none front bytes (Some behind) is = tt
 
--- it is all that stands there
+-- the suffix after a prefix is unique
 pub behind_front : (front bytes behind other : List ℕ) → Some behind ≡ after front bytes → bytes ≡ front ++ other → behind ≡ other
 behind_front front bytes behind other found is = append_cancel_left front behind other (sym (append-after front bytes behind (sym found)) ∙ is)
 
--- what follows from what a clause says where there is no value
+-- a consequence of what a clause says of `None`
 pub IfNone_then : {X : Type 0} (found : Option X) {P Q : Type 0} → IfNone found P → (P → Q) → IfNone found Q
 IfNone_then None none next = next none
 IfNone_then (Some x) none next = tt
 
--- no right line stands there, and no limit is tried there
+-- the bytes do not begin with a right line, and no limit applies
 pub wrong_unlimited : (progress : Progress) (bytes : List ℕ) → GoesOn progress → limit_at progress ≡ None → ((next : Progress) (rest : List ℕ) → ¬ StepsTo progress bytes next rest) → IsWrong progress bytes
 wrong_unlimited progress bytes on unlimited no_line =
     record { goes_on = on; no_line = no_line; no_limit = λ refusal passes. none-some passes.limit (sym unlimited ∙ passes.tried) }
 
--- no right line stands there, and this limit is tried there
+-- the bytes do not begin with a right line, and this limit applies
 pub refused_limited : (progress : Progress) (limit : Limit) (bytes : List ℕ) (line : ℕ) (why : GateFault) → GoesOn progress → limit_at progress ≡ Some limit → ((next : Progress) (rest : List ℕ) → ¬ StepsTo progress bytes next rest)
     → IsTried limit bytes line why → IsRefusedLine progress bytes line why
 refused_limited progress limit bytes line (fault.BadGateText at) on limited no_line tried = (
@@ -62,13 +62,13 @@ refused_after bytes lines progress rest (fault.BadGateText at) chain refused = W
 refused_after bytes lines progress rest (fault.Over refusal) chain refused = PassedLimit lines progress rest refusal chain refused refl
 refused_after bytes lines progress rest fault.Memory chain refused = absurd refused
 
--- the word of no level stands on the line alone
+-- no level's keyword is alone on the line
 pub no_level_word : (bytes : List ℕ) → None ≡ after (codes "mcx\n") bytes → None ≡ after (codes "tof\n") bytes → None ≡ after (codes "t\n") bytes → (level : Level) (rest : List ℕ) → ¬ (bytes ≡ level_word level ++ (codes "\n" ++ rest))
 no_level_word bytes mcx tof t levels.Mcx rest is = not_after (codes "mcx\n") bytes rest mcx is
 no_level_word bytes mcx tof t levels.Tof rest is = not_after (codes "tof\n") bytes rest tof is
 no_level_word bytes mcx tof t levels.T rest is = not_after (codes "t\n") bytes rest t is
 
--- a number on the line of a word is the one that was read behind the word
+-- a number on the line of a keyword is the one that was read after the keyword
 pub number_read : (word bytes behind rest : List ℕ) (n number : ℕ) (other : List ℕ) → Some behind ≡ after word bytes → behind ≡ decimal number ++ (codes "\n" ++ other) → n < 2 ^ 64 → number < 2 ^ 64
     → bytes ≡ word ++ (decimal n ++ (codes "\n" ++ rest)) → n ≡ number
 number_read word bytes behind rest n number other found read small small' is =

@@ -1,4 +1,4 @@
--- When a number behind a word passes its limit.
+-- When a number after a keyword passes its limit.
 use Rattle.std.proofs.Common.{◌≡◌, ◌∙◌, ap, sym, ℕ, ◌≤◌, List, Some, None, arith}
 use Rattle.std.proofs.lemmas.Fmt.{decimal_injective}
 use Rattle.tw_text.specs.Limits.{limit_of}
@@ -9,14 +9,14 @@ use Rattle.tw_gatetext.specs.Numerals.{Shows, Word, Larger}
 use Rattle.tw_gatetext.specs.Refused.{Limit, PassesLimit}
 use Rattle.tw_gatetext.proofs.DigitRuns.{not_after}
 
--- a text shows one number
+-- a text shows at most one number
 pub shows_one : (text : List ℕ) (n m : ℕ) → Shows text n → Shows text m → n ≡ m
 shows_one text n m (Word small is) (Word small' is') = decimal_injective n m small small' (sym is ∙ is')
 shows_one text n m (Word small is) (Larger larger greatest) = absurd (larger.no_word n small is)
 shows_one text n m (Larger larger greatest) (Word small is) = absurd (larger.no_word m small is)
 shows_one text n m (Larger larger greatest) (Larger larger' greatest') = greatest ∙ sym greatest'
 
--- the number that passes a limit is shown by what stands behind the word
+-- the number that passes a limit is the one that the suffix after the keyword shows
 shown_behind : (limit : Limit) (bytes behind : List ℕ) (refusal : Refusal) → Some behind ≡ after limit.word bytes → (passes : PassesLimit limit bytes refusal) → Shows behind passes.found
 shown_behind limit bytes behind refusal found passes =
     let other : Some passes.behind ≡ Some behind = sym (after-append limit.word passes.behind) ∙ ap (after limit.word) (sym passes.begins) ∙ sym found in

@@ -5,11 +5,11 @@ use Rattle.std.proofs.lemmas.Slice.Eq.{bytes_eq-Decides}
 use Rattle.tw_gate.specs.Gates.{PlainGate, X}
 use Rattle.tw_gatetext.specs.LineWords.{letters, numbers_of}
 
--- the word and the numbers are those of no gate
+-- no gate has this word and these numbers
 abbrev pub IsNoGate : List ℕ → List ℕ → Type 0
 IsNoGate word numbers = (gate : PlainGate) → word ≡ letters gate → numbers ≡ numbers_of gate → ⊥
 
--- the numbers are not the wires of an X gate of so many controls
+-- the numbers are not the wires of an X gate of this number of controls
 abbrev pub IsNoX : ℕ → List ℕ → Type 0
 IsNoX controls numbers = (others : List ℕ) (target : ℕ) → length others ≡ controls → numbers ≡ others ++ target ∷ [] → ⊥
 

@@ -1,4 +1,4 @@
--- How the pieces of a line and of a file join.
+-- How the pieces of a line and of a file are concatenated.
 use Rattle.std.proofs.Common.{◌≡◌, ◌∙◌, ℕ, List, [], ◌∷◌, ◌++◌, length, decimal, codes, Option, Result, Ok, Err, refl, append_assoc, append-nil}
 use Rattle.std.specs.List.{AllByRecursion}
 use Rattle.tw_io.specs.declared.device.WriteFault.{WriteFault}
@@ -9,7 +9,7 @@ use Rattle.tw_gatetext.specs.declared.file.GateFile.{GateFile}
 use Rattle.tw_gatetext.specs.Files.{plain_file}
 use Rattle.tw_gatetext.specs.Text.{x_words, spaced, line, lines, header, last_line, file_text}
 
--- what holds of all of a list and of one more element holds of both
+-- a property of all elements of a list and of one more is a property of all elements of the longer list
 pub all_push : {X : Type 0} (P : X → Type 0) (xs : List X) (x : X) → AllByRecursion P xs → P x → AllByRecursion P (xs ++ x ∷ [])
 all_push P [] x all last = (last, tt)
 all_push P (y ∷ xs) x all last = (all.0, all_push P xs x all.1 last)
@@ -18,16 +18,16 @@ pub spaced-append : (xs ys : List ℕ) → spaced (xs ++ ys) ≡ spaced xs ++ sp
 spaced-append [] ys = refl
 spaced-append (x ∷ xs) ys = rw (spaced-append xs ys) (simp append_assoc)
 
--- the bytes that the line of an X gate is put together from, behind those that stood there
+-- the bytes that the line of an X gate is composed of, after those that were there
 pub x_line-pushed : (controls : List ℕ) (target : ℕ) (start begun all : List ℕ) → begun ≡ start ++ (x_words (length controls) ++ spaced controls) → all ≡ (begun ++ (codes " " ++ decimal target)) ++ codes "\n" → all ≡ start ++ line (X controls target)
 x_line-pushed controls target start begun all words pushed = pushed ∙ rw (words, spaced-append controls (target ∷ [])) (simp (append_assoc, append-nil))
 
--- the first of some gates was written whole; then whatever became of the others became of all
+-- if the first gate was written whole, the outcome for the others is the outcome for all
 pub gate_then : {K : Type 0} (taken : K → Option (List ℕ)) (faults : K → ℕ) (a b c : K) (result : Result (Unit {0}) WriteFault) (gates : List PlainGate) (first : PlainGate) (others : List PlainGate) → gates ≡ first ∷ others
     → Wrote taken faults a b (Ok tt) (line first) → Wrote taken faults b c result (lines others) → Wrote taken faults a c result (lines gates)
 gate_then taken faults a b c result gates first others split wrote later = rw split (wrote_then taken faults a b c result (line first) (lines others) wrote later)
 
--- what broke off in the first of some gates broke off in their lines
+-- a break in the first gate is a break in the lines of all
 pub gate_broke : {K : Type 0} (taken : K → Option (List ℕ)) (faults : K → ℕ) (a b : K) (fault : WriteFault) (gates : List PlainGate) (first : PlainGate) (others : List PlainGate) → gates ≡ first ∷ others
     → Wrote taken faults a b (Err fault) (line first) → Wrote taken faults a b (Err fault) (lines gates)
 gate_broke taken faults a b fault gates first others split wrote = rw split (wrote_prefix taken faults a b fault (line first) (lines others) wrote)

@@ -1,4 +1,4 @@
--- The text of a file tells the file, and no text is a proper front of another.
+-- The text of a file determines the file, and no text is a proper prefix of another.
 use Rattle.std.proofs.Common.{◌≡◌, ◌∙◌, ap, sym, ℕ, List, [], ◌∷◌, ◌++◌, length, decimal, codes, if◌then◌else◌, refl, append_assoc}
 use Rattle.std.specs.List.{AllByRecursion}
 use Rattle.std.specs.Str.{bytes_eq}
@@ -71,7 +71,7 @@ gate_of-letters (H wire) = refl
 gate_of-letters (T wire) = refl
 gate_of-letters (Tdg wire) = refl
 
--- the letters and the numbers of a line tell its gate
+-- the letters and the numbers of a line determine its gate
 pub gate-told : (gate other : PlainGate) → letters gate ≡ letters other → numbers_of gate ≡ numbers_of other → gate ≡ other
 gate-told gate other word numbers = sym (gate_of-letters gate) ∙ rw (word, numbers) (gate_of-letters other)
 

@@ -14,12 +14,12 @@ use Rattle.tw_gatetext.proofs.Chains.{EndsAt, one_end}
 use Rattle.tw_gatetext.proofs.WithinLimits.{no_limit, one_limit}
 use Rattle.tw_gatetext.proofs.WholeFiles.{head_of, file_reaches}
 
--- the T-count that a whole file tells is that of its gates
+-- the T-count on line 5 of a whole file is that of its gates
 abbrev IsCounted : Progress → Type 0
 IsCounted (Whole head gates) = head.t_count ≡ decimal (t_count gates)
 IsCounted progress = Unit {0}
 
--- why bytes are refused whose right lines end so
+-- the refusal of bytes whose right lines end here
 data Reason (lines : ℕ) (at : Progress) (rest : List ℕ) (why : GateFault) : Type 0 where
   Wrong : IsWrong at rest → why ≡ fault.BadGateText (lines + 1) → Reason lines at rest why
   Passed : (refusal : Refusal) → Passes at rest refusal → why ≡ fault.Over refusal → Reason lines at rest why
@@ -53,7 +53,7 @@ ended bytes why (WrongTCount lines head gates rest chain other is) =
       reason = Miscounted (λ on. on) other is;
     }
 
--- where a limit is passed, the file has a further line
+-- if a limit is passed, the file has a further line
 limited : (at : Progress) (rest : List ℕ) (refusal : Refusal) → Passes at rest refusal → GoesOn at
 limited (Whole head gates) rest refusal passes = none-some passes.limit passes.tried
 limited at rest refusal passes = tt
@@ -69,7 +69,7 @@ one_reason lines at rest why other (Miscounted whole count is) (Wrong wrong is')
 one_reason lines at rest why other (Miscounted whole count is) (Passed refusal passes is') = absurd (whole (limited at rest refusal passes))
 one_reason lines at rest why other (Miscounted whole count is) (Miscounted whole' count' is') = is' ∙ sym is
 
--- the reason of one end is that of each other
+-- two ends have the same reason
 same_reason : (bytes : List ℕ) (m n : ℕ) (at at' : Progress) (rest rest' : List ℕ) (why : GateFault) → EndsAt bytes m at rest → EndsAt bytes n at' rest' → Reason m at rest why → Reason n at' rest' why
 same_reason bytes m n at at' rest rest' why ends ends' reason =
     let same = one_end bytes m n at at' rest rest' ends ends' in

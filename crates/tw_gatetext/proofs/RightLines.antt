@@ -1,4 +1,4 @@
--- A file that has come so far goes on with at most one right line, and a right line keeps what is known of the file.
+-- At most one right line follows the lines so far, and a right line keeps what is known of the file.
 use Rattle.std.proofs.Common.{◌≡◌, ◌∙◌, ap, sym, ℕ, ◌≤◌, List, [], ◌∷◌, ◌++◌, length, codes, decimal, arith, append_assoc}
 use Rattle.std.specs.List.{AllByRecursion}
 use Rattle.std.proofs.lemmas.List.{append_cancel_left, length_push}
@@ -26,7 +26,7 @@ pub record FitHead (head : Head) (gates : List PlainGate) : Type 0 where
   pub level : AllByRecursion (FitsLevel head.level) gates
   pub wires : AllByRecursion (FitsWires head.wires) gates
 
--- what the lines so far have told is within its limits
+-- the values of the lines so far are within their limits
 abbrev pub IsSound : Progress → Type 0
 IsSound (AtGates level wires) = (1 ≤ wires) × (wires ≤ WIRES_LIMIT)
 IsSound (AtTCount level wires gates) = (1 ≤ wires) × (wires ≤ WIRES_LIMIT) × (gates ≤ LINES_LIMIT)
@@ -40,7 +40,7 @@ numeral-delimited t u xs ys whole whole' e =
     let behind = append_cancel_left t (codes "\n" ++ xs) (codes "\n" ++ ys) (e ∙ ap (λ (w : List ℕ). w ++ (codes "\n" ++ ys)) (sym same)) in
     (same, append_cancel_left (codes "\n") xs ys behind)
 
--- what a line of a word and a value has behind the word
+-- the suffix of a line of a keyword and a value after the keyword
 pub valued : (word value text rest : List ℕ) → text ≡ word ++ (value ++ codes "\n") → text ++ rest ≡ word ++ (value ++ (codes "\n" ++ rest))
 valued word value text rest is = rw is (simp append_assoc)
 
@@ -91,7 +91,7 @@ sound_body head gates text next fit (OfGate gate more level wires is comes) =
     rw comes (record { limits = fit.limits; level = all_push _ gates gate fit.level level; wires = all_push _ gates gate fit.wires wires }, omega (arith, length_push gates gate))
 sound_body head gates text next fit (Last all is comes) = rw comes (fit, all)
 
--- a right line tells nothing beyond the limits
+-- a right line has no value past a limit
 pub sound_step : (progress : Progress) (text : List ℕ) (next : Progress) → IsSound progress → IsRight progress text next → IsSound next
 sound_step AtVersion text next sound right = rw right.1 tt
 sound_step AtLevel text next sound right = rw right.2 tt

@@ -1,4 +1,4 @@
--- Numbers that stand behind spaces, up to the end of a line.
+-- Numbers after spaces, up to the end of a line.
 use Rattle.std.proofs.Common.{◌≡◌, ◌∙◌, ap, sym, ℕ, ◌<◌, ◌≤◌, ◌^◌, List, [], ◌∷◌, ◌++◌, length, decimal, codes, Some, None, refl, arith, append_assoc, append-nil, length-append}
 use Rattle.std.specs.List.{AllByRecursion}
 use Rattle.tw_text.specs.Front.{after}
@@ -7,14 +7,14 @@ use Rattle.tw_gatetext.specs.Text.{spaced}
 use Rattle.tw_gatetext.proofs.Lists.{all_push, spaced-append}
 use Rattle.tw_gatetext.proofs.DigitRuns.{not_after}
 
--- the bytes go on with these numbers up to the end of the line, and with this text behind it
+-- the bytes are these numbers up to the end of the line, then this text
 abbrev pub IsRestOfLine : List ℕ → List ℕ → List ℕ → Type 0
 IsRestOfLine bytes ns text = bytes ≡ spaced ns ++ (codes "\n" ++ text)
 
 abbrev pub AreWords : List ℕ → Type 0
 AreWords ns = AllByRecursion (λ n. n < 2 ^ 32) ns
 
--- what stands behind the space before the first number
+-- the suffix after the space before the first number
 pub space-behind : (bytes behind : List ℕ) → Some behind ≡ after (codes " ") bytes → (n : ℕ) (ns text : List ℕ) → IsRestOfLine bytes (n ∷ ns) text → behind ≡ decimal n ++ (spaced ns ++ (codes "\n" ++ text))
 space-behind bytes behind found n ns text e =
     let all = decimal n ++ (spaced ns ++ (codes "\n" ++ text)) in
@@ -22,14 +22,15 @@ space-behind bytes behind found n ns text e =
     let other : Some behind ≡ Some all = found ∙ ap (after (codes " ")) nested ∙ after-append (codes " ") all in
     cc
 
--- of the numbers of a line these were read, and further ones are left
+-- these of the numbers of a line were read, and further ones are left
 pub record IsLeft (read left ns text : List ℕ) : Type 0 where
   pub more : List ℕ
   pub whole : ns ≡ read ++ more
   pub words : AreWords more
   pub is_rest : IsRestOfLine left more text
 
--- these numbers were read at the front of the bytes, and this is left; every line that stands there begins with them
+-- These numbers were read at the start of the bytes, and this suffix is left. The numbers of every line that the bytes begin with
+-- begin with these.
 pub record HasRead (bytes read left : List ℕ) : Type 0 where
   pub parts : bytes ≡ spaced read ++ left
   pub words : AreWords read
@@ -70,7 +71,7 @@ read-more bytes read left n behind all so begins only small pushed =
           left-more read left ns text n behind is.more begins (λ m ms small e'. only m ms text small e') is.whole is.words is.is_rest;
     })
 
--- the line ends behind the numbers
+-- the line ends after the numbers
 pub read-whole : (bytes read left behind : List ℕ) → HasRead bytes read left → Some behind ≡ after (codes "\n") left → IsRestOfLine bytes read behind
 read-whole bytes read left behind so found = so.parts ∙ ap (λ t. spaced read ++ t) (append-after (codes "\n") left behind (sym found))
 
@@ -78,7 +79,7 @@ left-none : (left more text : List ℕ) → None ≡ after (codes "\n") left →
 left-none left [] text none no_number words e = not_after (codes "\n") left text none e
 left-none left (m ∷ more) text none no_number words e = no_number m more words.0 e
 
--- neither does the line end here, nor does a number follow
+-- neither the end of the line nor a number follows
 pub read-none : (bytes read left ns text : List ℕ) → HasRead bytes read left → None ≡ after (codes "\n") left
     → ((m : ℕ) (ms text : List ℕ) → m < 2 ^ 32 → IsRestOfLine left (m ∷ ms) text → ⊥)
     → AreWords ns → IsRestOfLine bytes ns text → ⊥
@@ -90,7 +91,7 @@ left-full : (read left ns text more : List ℕ) → None ≡ after (codes "\n") 
 left-full read left ns text [] none few whole e = not_after (codes "\n") left text none e
 left-full read left ns text (m ∷ more) none few whole e = absurd (omega (arith, ap length whole, length-append read (m ∷ more)))
 
--- the line does not end here, and has no further numbers
+-- the end of the line does not follow, and there are no further numbers
 pub read-full : (bytes read left ns text : List ℕ) → HasRead bytes read left → None ≡ after (codes "\n") left → length ns ≤ length read → AreWords ns → IsRestOfLine bytes ns text → ⊥
 read-full bytes read left ns text so none few words e =
     let is = so.only ns text words e in

@@ -13,7 +13,7 @@ use Rattle.tw_gatetext.specs.declared.file.GateFault.TheVariants as fault
 use Rattle.tw_gatetext.proofs.Bounds.{gate_weight-le}
 use Rattle.tw_gatetext.proofs.HeaderLines.{refused_after}
 
--- so many gate lines behind a header were taken: these gates, of this T-count, and this rest is left of the bytes
+-- This number of gate lines after a header was taken: these gates, of this T-count. This suffix of the bytes is left.
 pub record HasTaken (head : Head) (bytes : List ℕ) (lines : ℕ) (gates : List PlainGate) (count : ℕ) (rest : List ℕ) : Type 0 where
   pub chain : (all : List ℕ) → Reaches all 5 (InBody head []) bytes → Reaches all (5 + lines) (InBody head gates) rest
   pub each : length gates ≡ lines
@@ -40,7 +40,7 @@ pub taken-more : (head : Head) (bytes : List ℕ) (lines : ℕ) (gates : List Pl
 taken-more head bytes lines gates count rest after weight behind so step taken =
     rw taken.1 (taken_push head bytes lines gates count rest taken.0 weight behind so (rw taken.1 at step) taken.2 taken.3)
 
--- the weight of the gates taken so far and of one more is no large number
+-- the T-count of the gates so far and one more is bounded
 pub taken-small : (head : Head) (bytes : List ℕ) (lines : ℕ) (gates : List PlainGate) (count : ℕ) (rest : List ℕ) (after : List PlainGate) (weight : ℕ) → HasTaken head bytes lines gates count rest
     → ((gate : PlainGate) × (after ≡ gates ++ gate ∷ []) × (weight ≡ gate_weight gate) × HasFewControls gate) → count + weight ≤ 875 * (lines + 1)
 taken-small head bytes lines gates count rest after weight so taken = omega (arith, gate_weight-le taken.0 taken.3, so.small, taken.2)

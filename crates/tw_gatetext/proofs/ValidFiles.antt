@@ -38,7 +38,7 @@ valid-inverse file valid = record {
 pub few_controls-inverse : (file : File) → IsValid file → AllByRecursion HasFewControls (inverse file.gates)
 few_controls-inverse file valid = few_controls file.level (inverse file.gates) (valid-inverse file valid).fit_level
 
--- the gates act on the wires of the file alone
+-- the gates act only on the wires of the file
 pub below : (wires : ℕ) (gates : List PlainGate) → AllByRecursion (FitsWires wires) gates → AllByRecursion (HasWiresBelow wires) gates
 below wires [] fit = tt
 below wires (gate ∷ gates) fit = (fit.0.1, below wires gates fit.1)

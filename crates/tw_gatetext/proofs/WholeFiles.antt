@@ -1,4 +1,4 @@
--- The chains of right lines that make a file whole are the valid files.
+-- The chains of right lines to a whole file are the valid files.
 use Rattle.std.proofs.Common.{◌≡◌, ◌∙◌, ap, sym, subst, subst₂, ℕ, ◌+◌, ◌<◌, ◌≤◌, ◌^◌, List, [], ◌∷◌, ◌++◌, length, codes, decimal, refl, arith, append_assoc, append-nil}
 use Rattle.std.specs.List.{AllByRecursion}
 use Rattle.std.proofs.lemmas.List.{length_push}
@@ -18,7 +18,7 @@ use Rattle.tw_gatetext.proofs.RightLines.{valued}
 use Rattle.tw_gatetext.proofs.DigitRuns.{numeral-read}
 use Rattle.tw_gatetext.proofs.Chains.{sound}
 
--- the text up to the line of a word and a value
+-- the text up to the line of a keyword and a value
 abbrev valued_line : List ℕ → List ℕ → List ℕ → List ℕ
 valued_line before word value = before ++ (word ++ (value ++ codes "\n"))
 
@@ -125,11 +125,11 @@ more_gates bytes m n head done (gate ∷ gates) behind rest count parts level wi
     let others = more_gates bytes (m + 1) n head (done ++ gate ∷ []) gates (lines gates ++ rest) rest (omega arith) refl level.1 wires.1 (omega (arith, length_push done gate)) step in
     subst (λ (gs : List PlainGate). Reaches bytes n (InBody head gs) rest) (append_assoc done (gate ∷ []) gates) others
 
--- what the header lines of a file tell
+-- the values of the header lines of a file
 abbrev pub head_of : File → Head
 head_of file = record { level = file.level; wires = file.wires; gates = length file.gates; t_count = decimal file.t_count }
 
--- a line of a word and a value, and what follows
+-- a line of a keyword and a value, and the rest
 valued_front : (word value rest : List ℕ) → word ++ (value ++ (codes "\n" ++ rest)) ≡ (word ++ (value ++ codes "\n")) ++ rest
 valued_front word value rest = sym (valued word value _ rest refl)
 

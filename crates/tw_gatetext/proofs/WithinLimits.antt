@@ -1,4 +1,4 @@
--- No right line passes a limit, and a line is refused in one way by the limit that it passes.
+-- No right line passes a limit, and a line that passes a limit is refused in one way.
 use Rattle.std.proofs.Common.{◌≡◌, ◌∙◌, ap, sym, subst, ℕ, ◌<◌, ◌≤◌, ◌^◌, ◌⊎◌, inl, inr, Bool, true, false, cond, List, [], ◌∷◌, ◌++◌, length, codes, decimal, Some, None, refl, arith, append_assoc}
 use Rattle.std.specs.Char.{is_ascii_digit}
 use Rattle.std.proofs.lemmas.Option.{none-some, same_Some}

@@ -1,4 +1,4 @@
--- The word of a line and the numbers behind it.
+-- The word of a line and the numbers after it.
 use Rattle.std.proofs.Common.{◌≡◌, ◌∙◌, ap, sym, ℕ, ◌<◌, ◌≤◌, ◌^◌, List, [], ◌∷◌, ◌++◌, length, codes, refl, arith}
 use Rattle.std.specs.List.{AllByRecursion}
 use Rattle.std.proofs.lemmas.Bool.{ne_eqb}
@@ -25,7 +25,7 @@ no_line bytes word ns rest none are e =
     let first = numbers-begin ns (codes "\n" ++ rest) are.some in
     no_space-within word first.0 (rw (e, first.1) at none)
 
--- what stands behind the letters up to the first space is what stands behind the word
+-- the suffix after the letters up to the first space is the suffix after the word
 pub numbers-behind : (bytes letters behind spaced_rest word ns rest : List ℕ) → HasNoSpace letters → bytes ≡ letters ++ behind → behind ≡ codes " " ++ spaced_rest
     → HasNoSpace word → AreLineNumbers ns → IsLineOf bytes word ns rest → behind ≡ spaced ns ++ (codes "\n" ++ rest)
 numbers-behind bytes letters behind spaced_rest word ns rest none parts begins none' are e =
@@ -37,7 +37,7 @@ small_words : (ns : List ℕ) → AllByRecursion (λ n. n < 2 ^ 32) ns → AllBy
 small_words [] small = tt
 small_words (n ∷ ns) small = (omega (arith, small.0), small_words ns small.1)
 
--- a line tells its word and its numbers, and what follows it
+-- a line determines its word, its numbers, and what follows it
 pub words-delimited : (bytes word ns rest word' ns' rest' : List ℕ) → HasNoSpace word → AreLineNumbers ns → IsLineOf bytes word ns rest → HasNoSpace word' → AreLineNumbers ns' → IsLineOf bytes word' ns' rest'
     → (word ≡ word') × (ns ≡ ns') × (rest ≡ rest')
 words-delimited bytes word ns rest word' ns' rest' none are e none' are' e' =

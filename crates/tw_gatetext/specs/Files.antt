@@ -1,4 +1,4 @@
--- Gate files in memory, without where their gates lie.
+-- Gate files in memory, without the addresses of their gates.
 use Rattle.std.specs.Prelude.{◌≡◌, ℕ, List, ◌++◌}
 use Rattle.tw_gatetext.specs.declared.file.GateFile.{GateFile}
 use Rattle.tw_gatetext.specs.Text.{File, file_text}
@@ -8,7 +8,7 @@ use Rattle.tw_gatetext.specs.Valid.{IsValid}
 abbrev pub plain_file : GateFile → File
 plain_file file = record { level = file.level; wires = file.wires; t_count = file.t_count; gates = file.gates }
 
--- the bytes begin with the text of this valid file, which takes so many of them, and go on with this rest
+-- the bytes are the text of this valid file, then this rest
 pub record BeginsWith (bytes : List ℕ) (file : File) (rest : List ℕ) : Type 0 where
   pub valid : IsValid file
   pub text : bytes ≡ file_text file ++ rest

@@ -1,4 +1,4 @@
--- A gate line as letters, followed by numbers.
+-- A gate line as letters, then numbers.
 use Rattle.std.specs.Prelude.{◌≡◌, ℕ, List, [], ◌∷◌, ◌++◌, length, codes, refl}
 use Rattle.tw_gate.specs.Gates.{PlainGate, X, H, T, Tdg}
 

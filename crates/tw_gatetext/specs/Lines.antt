@@ -1,4 +1,4 @@
--- Which line may come where in a gate file.
+-- The lines that may follow the lines so far in a gate file.
 use Rattle.std.proofs.Common.{arith}
 use Rattle.std.specs.Prelude.{◌≡◌, ℕ, ◌+◌, ◌<◌, ◌≤◌, List, [], ◌∷◌, ◌++◌, length, codes, decimal, refl}
 use Rattle.std.specs.Fmt.{digits}
@@ -10,14 +10,14 @@ use Rattle.tw_gatetext.specs.Text.{level_word, line, last_line}
 use Rattle.tw_gatetext.specs.Valid.{FitsLevel, FitsWires}
 use Rattle.tw_gatetext.specs.Numerals.{IsNumeral}
 
--- what the five header lines tell: the level, the number of wires, how many gate lines follow, and the T-count as it is written
+-- the values of the five header lines: the level, the number of wires, the number of gate lines, and the digits of the T-count
 pub record Head : Type 0 where
   pub level : Level
   pub wires : ℕ
   pub gates : ℕ
   pub t_count : List ℕ
 
--- How far a file has come: the line that comes next, and the values of the lines so far. After the header comes a gate line or,
+-- How far a file has come: the kind of the next line, and the values of the lines so far. After the header comes a gate line or,
 -- after the last one, the line `end`; then the file is whole.
 pub data Progress : Type 0 where
   AtVersion : Progress
@@ -34,7 +34,7 @@ pub data IsBodyLine (head : Head) (gates : List PlainGate) (text : List ℕ) (ne
       → text ≡ line gate → next ≡ InBody head (gates ++ gate ∷ []) → IsBodyLine head gates text next
   Last : length gates ≡ head.gates → text ≡ last_line → next ≡ Whole head gates → IsBodyLine head gates text next
 
--- the text is a right line of a file that has come so far, and the file has come to `next` after it
+-- the text is a right line at this point of a file, and `next` is the point after it
 abbrev pub IsRight : Progress → List ℕ → Progress → Type 0
 IsRight AtVersion text next = (text ≡ codes "tower-gates 1\n") × (next ≡ AtLevel)
 IsRight AtLevel text next = (level : Level) × (text ≡ codes "level " ++ (level_word level ++ codes "\n")) × (next ≡ AtWires level)
@@ -48,14 +48,14 @@ IsRight (AtTCount level wires gates) text next =
 IsRight (InBody head gates) text next = IsBodyLine head gates text next
 IsRight (Whole head gates) text next = ⊥
 
--- the bytes of a file that has come so far begin with a right line; the file has come to `next` after it, and
--- this rest follows
+-- the bytes at this point of a file begin with a right line; `next` is the point after it,
+-- and this is the rest
 pub record StepsTo (progress : Progress) (bytes : List ℕ) (next : Progress) (rest : List ℕ) : Type 0 where
   pub text : List ℕ
   pub parts : bytes ≡ text ++ rest
   pub right : IsRight progress text next
 
--- the bytes begin with so many right lines, which bring the file so far, and go on with this rest
+-- the bytes are this number of right lines, which lead to this point of a file, then this rest
 pub data Reaches (bytes : List ℕ) : ℕ → Progress → List ℕ → Type 0 where
   Start : Reaches bytes 0 AtVersion bytes
   Line : (lines : ℕ) (at : Progress) (behind : List ℕ) (progress : Progress) (rest : List ℕ) → Reaches bytes lines at behind → StepsTo at behind progress rest

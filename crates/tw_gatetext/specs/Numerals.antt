@@ -1,4 +1,4 @@
--- Numbers as gate files write them, also those above the greatest number of 64 bits.
+-- Numbers as gate files write them, including those above the greatest number of 64 bits.
 use Rattle.std.proofs.Common.{arith}
 use Rattle.std.specs.Prelude.{◌≡◌, ◌≢◌, ℕ, ◌<◌, ◌-◌, ◌^◌, List, [], ◌∷◌, decimal, codes, refl}
 use Rattle.std.specs.Fmt.{digits}
@@ -9,18 +9,18 @@ abbrev pub LeadsWithoutZero : List ℕ → Type 0
 LeadsWithoutZero [] = ⊥
 LeadsWithoutZero (digit ∷ digits) = digit ≢ 48
 
--- a run of digits without leading zero that writes no number of 64 bits, but a larger one
+-- a run of digits without leading zero that writes a number above the greatest one of 64 bits
 pub record IsLarger (run : List ℕ) : Type 0 where
   pub leads : LeadsWithoutZero run
   pub no_word : (n : ℕ) → n < 2 ^ 64 → run ≢ decimal n
 
--- The number that the digits at the start of a text write, without leading zero; the greatest one of 64 bits represents all
--- that are larger.
+-- The number that the longest prefix of digits writes, without leading zero. The greatest number of 64 bits represents all larger
+-- numbers.
 pub data Shows (text : List ℕ) (number : ℕ) : Type 0 where
   Word : number < 2 ^ 64 → digit_run text ≡ decimal number → Shows text number
   Larger : IsLarger (digit_run text) → number ≡ 2 ^ 64 - 1 → Shows text number
 
--- the text is a number of any size, and no more
+-- the text is the digits of a number of any size
 pub record IsNumeral (text : List ℕ) : Type 0 where
   pub number : ℕ
   pub shows : Shows text number

@@ -32,12 +32,12 @@ gates_limit = record { word = codes "gates "; what = counted.Lines }
 abbrev pub mcx_limit : Limit
 mcx_limit = record { word = codes "mcx "; what = counted.Controls }
 
--- the limit on the controls of a gate is tried at the level of gates with any number of controls
+-- the limit on the controls of a gate applies at the level of gates with any number of controls
 abbrev pub controls_limit : Level → Option Limit
 controls_limit levels.Mcx = Some mcx_limit
 controls_limit level = None
 
--- the limit on the line that a file has next, where there is one
+-- the limit on the next line of a file, if there is one
 abbrev pub limit_at : Progress → Option Limit
 limit_at (AtWires level) = Some wires_limit
 limit_at (AtGates level wires) = Some gates_limit
@@ -59,19 +59,19 @@ pub record Passes (progress : Progress) (bytes : List ℕ) (refusal : Refusal) :
   pub tried : limit_at progress ≡ Some limit
   pub exceeded : PassesLimit limit bytes refusal
 
--- a file that has come so far has a further line
+-- the file has a further line at this point
 abbrev pub GoesOn : Progress → Type 0
 GoesOn (Whole head gates) = ⊥
 GoesOn progress = Unit {0}
 
--- the next line is wrong: one is missing, and the bytes go on with no right line, and pass no limit
+-- the next line is wrong: the file has a further line, the bytes do not begin with a right one, and they pass no limit
 pub record IsWrong (progress : Progress) (bytes : List ℕ) : Type 0 where
   pub goes_on : GoesOn progress
   pub no_line : (next : Progress) (rest : List ℕ) → ¬ StepsTo progress bytes next rest
   pub no_limit : (refusal : Refusal) → ¬ Passes progress bytes refusal
 
--- Why bytes begin with no gate file: the first line that is not right is wrong or passes a limit; or all lines are right, and
--- the T-count, on line 5, is not that of the gates. Lines are counted from 1.
+-- Why bytes begin with no gate file. The first line that is not right is wrong, or passes a limit. Or all lines are right, and
+-- the T-count, on line 5, is not that of the gates. Lines count from 1.
 pub data IsRefusedText (bytes : List ℕ) (why : GateFault) : Type 0 where
   WrongLine : (before : ℕ) (progress : Progress) (rest : List ℕ) → Reaches bytes before progress rest → IsWrong progress rest
       → why ≡ fault.BadGateText (before + 1) → IsRefusedText bytes why
@@ -80,7 +80,7 @@ pub data IsRefusedText (bytes : List ℕ) (why : GateFault) : Type 0 where
   WrongTCount : (lines : ℕ) (head : Head) (gates : List PlainGate) (rest : List ℕ) → Reaches bytes lines (Whole head gates) rest
       → head.t_count ≢ decimal (t_count gates) → why ≡ fault.BadGateText 5 → IsRefusedText bytes why
 
--- a number of wires past its limit, and more after it
+-- a number of wires past its limit, with more bytes after it
 pub Passes-wires : Passes (AtWires levels.Mcx) (codes "wires 1048577junk") (record { rule = rule.Limit counted.Wires; at = first_place; found = 1048577; limit = 1048576 })
 unfolding digits
 Passes-wires = record {

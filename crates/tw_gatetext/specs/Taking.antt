@@ -1,4 +1,4 @@
--- What a sink that was lent for gate lines took.
+-- What a sink that is lent to a taker of gates took.
 use Rattle.std.specs.Prelude.{◌≡◌, ℕ, List, [], ◌∷◌, Option, Some, codes, refl}
 use Rattle.std.specs.Fmt.{digits}
 use Rattle.std.specs.Borrow.{MutBor}
@@ -7,17 +7,17 @@ use Rattle.tw_gate.specs.Gates.{PlainGate, H, HasWiresBelow}
 use Rattle.tw_text.specs.declared.limits.TheConstants.{WIRES_LIMIT}
 use Rattle.tw_gatetext.specs.Text.{lines, HasFewControls}
 
--- a gate that a file may hold on some number of wires: its controls and its wires are within their limits
+-- a gate that a file may have on some number of wires: its controls and its wires are within their limits
 pub record FitsLine (gate : PlainGate) : Type 0 where
   pub few : HasFewControls gate
   pub low : HasWiresBelow WIRES_LIMIT gate
 
--- the sink took the lines of these gates, and is the same that was lent
+-- the sink took the lines of these gates, and is the sink that was lent
 pub record TookLines {K : Type 0} (taken : K → Option (List ℕ)) (old new : MutBor K) (gates : List PlainGate) : Type 0 where
   pub same_sink : new.ghost_name ≡ old.ghost_name
   pub whole : Appends (taken old.now) (taken new.now) (lines gates)
 
--- the sink took a prefix of the lines of these gates, and is the same that was lent
+-- the sink took a prefix of the lines of these gates, and is the sink that was lent
 pub record BrokeLines {K : Type 0} (taken : K → Option (List ℕ)) (old new : MutBor K) (gates : List PlainGate) : Type 0 where
   pub same_sink : new.ghost_name ≡ old.ghost_name
   pub front : AppendsPrefix (taken old.now) (taken new.now) (lines gates)

@@ -6,20 +6,20 @@ use Rattle.tw_gate.specs.declared.gate.Level.TheVariants as levels
 use Rattle.tw_gate.specs.Gates.{PlainGate, X, H, T, Tdg, example}
 use Rattle.tw_text.specs.declared.limits.TheConstants.{CONTROLS_LIMIT}
 
--- a gate file: which kinds it holds, on how many wires, its T-count, and its gates
+-- a gate file: its level, its number of wires, its T-count, and its gates
 pub record File : Type 0 where
   pub level : Level
   pub wires : ℕ
   pub t_count : ℕ
   pub gates : List PlainGate
 
--- the word of a level
+-- the keyword of a level
 abbrev pub level_word : Level → List ℕ
 level_word levels.Mcx = codes "mcx"
 level_word levels.Tof = codes "tof"
 level_word levels.T = codes "t"
 
--- the words that begin the line of an X gate, by its number of controls
+-- the letters that begin the line of an X gate, by its number of controls
 abbrev pub x_words : ℕ → List ℕ
 x_words zero = codes "x"
 x_words (suc zero) = codes "cx"

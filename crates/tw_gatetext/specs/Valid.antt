@@ -8,7 +8,7 @@ use Rattle.tw_gate.specs.Weight.{t_count}
 use Rattle.tw_text.specs.declared.limits.TheConstants.{CONTROLS_LIMIT, WIRES_LIMIT, LINES_LIMIT}
 use Rattle.tw_gatetext.specs.Text.{File}
 
--- which kinds of gates a level takes, with how many controls
+-- which kinds of gates a level allows, with how many controls
 abbrev pub FitsLevel : Level → PlainGate → Type 0
 FitsLevel levels.Mcx (X controls target) = length controls ≤ CONTROLS_LIMIT
 FitsLevel levels.Tof (X controls target) = length controls ≤ 2

@@ -1,3 +1,4 @@
+//! Gate files in memory, and why bytes begin with none.
 use thiserror::Error;
 use tw_gate::{GateList, Level};
 use tw_text::Refusal;
@@ -5,7 +6,7 @@ use tw_text::Refusal;
 /// A gate file in memory.
 #[derive(Debug, Drop)]
 pub struct GateFile {
-    /// Which kinds of gates it holds.
+    /// Its level: which kinds of gates it may have.
     pub level: Level,
     /// The number of its wires, which are numbered from 0.
     pub wires: u32,
@@ -18,10 +19,11 @@ pub struct GateFile {
 /// Why bytes begin with no gate file.
 #[derive(Debug, Clone, Copy, PartialEq, Eq, Error)]
 pub enum GateFault {
-    /// This line, counted from 1, is the first that is wrong in its place, or is missing.
+    /// This line is the first that is wrong or missing; or it is line 5, and its T-count is not that of the gates.
+    /// Lines count from 1.
     #[error("a line of the gate file is wrong")]
     BadGateText { line: u32 },
-    /// A line passes a limit: the number of wires, of gate lines, or of controls. Its place is 1:1.
+    /// A number passes its limit: that of wires, of gate lines, or of controls. Its place is 1:1.
     #[error("the gate file passes a limit")]
     Over(Refusal),
     /// Out of memory.

@@ -7,7 +7,7 @@ ghost use Rattle.tw_gatetext.specs.Valid.{FitsLevel, FitsWires};
 use tw_gate::{Gate, Level};
 use tw_text::CONTROLS_LIMIT;
 
-/// Whether the level takes a gate of this kind with this many controls.
+/// Whether the level allows a gate of this kind with this number of controls.
 pub fn fits_level(level: Level, gate: &Gate) -> bool
     ensures { (result ≡ true) ↔ FitsLevel level (plain gate.now) }
 {

@@ -1,4 +1,4 @@
-//! Gate lines as letters and numbers, and the gates that these spell.
+//! Gate lines as letters and numbers, and the gates that they denote.
 ghost use Rattle.std.specs.Prelude.{◌≡◌, ◌≢◌, ℕ, ◌<◌, ◌≤◌, ◌^◌, ◌++◌, [], ◌∷◌, List, length, codes, decimal, IfSome};
 ghost use Rattle.std.specs.Option.{IfNone};
 ghost use Rattle.std.specs.List.{AllByRecursion};
@@ -19,7 +19,7 @@ const MOST_NUMBERS: usize = CONTROLS_LIMIT as usize + 2;
 /// The numbers of a line.
 pub type Numbers = ArrayVec<u32, MOST_NUMBERS>;
 
-/// A gate line: its letters, and what follows the line.
+/// A gate line: its letters, and the bytes after the line.
 #[derive(Clone, Copy)]
 pub struct LineWords<'b> {
     pub letters: &'b [u8],
@@ -36,7 +36,7 @@ fn word_at(bytes: &[u8]) -> Option<(&[u8], &[u8])>
     Some((&bytes[..end], &bytes[end..]))
 }
 
-/// The number after a space, and what follows it.
+/// The number after a space, and the bytes after it.
 fn spaced_number(bytes: &[u8]) -> Option<(u32, &[u8])>
     ensures some { IfSome result (λ found. bytes.now ≡ codes " " ++ (decimal found.0 ++ found.1.now)) }
     ensures only { IfSome result (λ found. (n : ℕ) (ns rest : List ℕ) → n < 2 ^ 32 → bytes.now ≡ spaced (n ∷ ns) ++ (codes "\n" ++ rest) → (n ≡ found.0) × (found.1.now ≡ spaced ns ++ (codes "\n" ++ rest))) }
@@ -46,7 +46,8 @@ fn spaced_number(bytes: &[u8]) -> Option<(u32, &[u8])>
     Some((u32::try_from(number).ok()?, rest))
 }
 
-/// Reads the numbers up to the end of the line, each after a space, and gives what follows the line. What the buffer held is lost.
+/// Reads the numbers up to the end of the line, each after a space. Returns the bytes after the line.
+/// What the buffer held is lost.
 fn spaced_numbers<'b>(bytes: &'b [u8], numbers: &mut Numbers) -> Option<&'b [u8]>
     ensures some { IfSome result (λ rest. bytes.now ≡ spaced numbers.new.items ++ (codes "\n" ++ rest.now)) }
     ensures few { IfSome result (λ rest. length numbers.new.items ≤ MOST_NUMBERS) }
@@ -78,7 +79,7 @@ pub fn line_words<'b>(bytes: &'b [u8], numbers: &mut Numbers) -> Option<LineWord
     Some(LineWords { letters, rest })
 }
 
-/// The X gate of so many controls whose wires these are, the target last.
+/// The X gate of this number of controls on these wires, the target last.
 fn x_gate(wires: &[u32], controls: usize) -> Option<Gate<'_>>
     ensures some { IfSome result (λ gate. (others : List ℕ) × (target : ℕ) × (plain gate ≡ X others target) × (length others ≡ controls) × (wires.now ≡ others ++ target ∷ [])) }
     ensures none { IfNone result ((others : List ℕ) (target : ℕ) → length others ≡ controls → ¬ (wires.now ≡ others ++ target ∷ [])) }
@@ -108,7 +109,7 @@ pub fn gate_of<'n>(word: &[u8], numbers: &'n [u32]) -> Option<Gate<'n>>
     }
 }
 
-/// The X gate of three or more controls, of which the first number says how many there are.
+/// The X gate of three or more controls. The first number is their count.
 fn many_controls(numbers: &[u32]) -> Option<Gate<'_>>
     ensures some { IfSome result (λ gate. (others : List ℕ) × (target : ℕ) × (plain gate ≡ X others target) × (3 ≤ length others) × (numbers.now ≡ length others ∷ (others ++ target ∷ []))) }
     ensures none { IfNone result ((others : List ℕ) (target : ℕ) → 3 ≤ length others → ¬ (numbers.now ≡ length others ∷ (others ++ target ∷ []))) }

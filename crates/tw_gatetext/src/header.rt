@@ -17,16 +17,16 @@ use crate::numbers::{number_line, numeral_line};
 use tw_gate::Level;
 use tw_text::{Counted, after};
 
-/// What the header lines tell.
+/// The values of the header lines.
 #[derive(Debug, Clone, Copy)]
 pub struct Header<'b> {
-    /// Which kinds of gates the file holds.
+    /// The level of the file: which kinds of gates it may have.
     pub level: Level,
     /// The number of its wires, at least 1.
     pub wires: u32,
-    /// How many gate lines follow.
+    /// The number of gate lines.
     pub gates: u32,
-    /// The digits of the T-count, as they are on the line.
+    /// The digits of the T-count.
     pub t_count: &'b [u8],
 }
 
@@ -47,7 +47,7 @@ fn version_line(bytes: &[u8]) -> Option<&[u8]>
     after(bytes, b"tower-gates 1\n")
 }
 
-/// The level whose word the rest of a line is, and what follows the line.
+/// The level whose keyword is the rest of a line, and the bytes after the line.
 fn level_word(bytes: &[u8]) -> Option<(Level, &[u8])>
     ensures some { IfSome result (λ read. bytes.now ≡ level_word read.0 ++ (codes "\n" ++ read.1.now)) }
     ensures none { IfNone result ((level : Level) (rest : List ℕ) → ¬ (bytes.now ≡ level_word level ++ (codes "\n" ++ rest))) }
@@ -69,7 +69,7 @@ fn level_line(bytes: &[u8]) -> Option<(Level, &[u8])>
     level_word(after(bytes, b"level ")?)
 }
 
-/// The number on a line of a keyword and a number, from `least` to the limit, and what follows the line.
+/// The number on a line of a keyword and a number, from `least` to the limit, and the bytes after the line.
 fn counted_number<'b>(limit: &NumberLimit, least: u64, bytes: &'b [u8]) -> Option<(u32, &'b [u8])>
     requires { limit_of limit.now.what ≤ 2 ^ 31 }
     ensures some { IfSome result (λ read. (bytes.now ≡ limit.now.word.now ++ (decimal read.0 ++ (codes "\n" ++ read.1.now))) × (least ≤ read.0) × (read.0 ≤ limit_of limit.now.what)) }
@@ -106,7 +106,7 @@ fn gates_line(bytes: &[u8]) -> Result<(u32, &[u8]), GateFault>
     }
 }
 
-/// The digits of the T-count, and what follows the line.
+/// The digits of the T-count, and the bytes after the line.
 fn t_count_line(bytes: &[u8]) -> Option<(&[u8], &[u8])>
     ensures some { IfSome result (λ read. (level : Level) (wires gates : ℕ) → StepsTo (AtTCount level wires gates) bytes.now (InBody (record { level = level; wires = wires; gates = gates; t_count = read.0.now }) []) read.1.now) }
     ensures none { IfNone result ((level : Level) (wires gates : ℕ) → IsWrong (AtTCount level wires gates) bytes.now) }
@@ -114,7 +114,7 @@ fn t_count_line(bytes: &[u8]) -> Option<(&[u8], &[u8])>
     numeral_line(after(bytes, b"t-count ")?)
 }
 
-/// Reads the five header lines: what they tell, and what follows them.
+/// Reads the five header lines. Returns their values, and the bytes after them.
 pub fn read_header(bytes: &[u8]) -> Result<(Header<'_>, &[u8]), GateFault>
     ensures read { IfOk result (λ read. Reaches bytes.now 5 (InBody (head_seen read.0) []) read.1.now) }
     ensures within { IfOk result (λ read. (1 ≤ read.0.wires) × (read.0.wires ≤ WIRES_LIMIT) × (read.0.gates ≤ LINES_LIMIT)) }

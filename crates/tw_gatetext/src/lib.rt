@@ -1,6 +1,6 @@
-//! Gate files: the text of a file, written to a sink piece by piece with no memory of its own, and read back.
-//! `specs/` says which text a file has, which files are valid, which line may come where, and how bytes that begin with no
-//! file are refused; `proofs/` shows that the text of a file determines it.
+//! Gate files: the text of a file, written to a sink piece by piece without allocation, and read back.
+//! `specs/` defines the text of a file, the valid files, the lines that may follow one another, and how bytes that begin with no
+//! file are refused. `proofs/` shows that the text of a file determines it.
 #![tactic(auto)]
 
 mod file;

@@ -13,8 +13,8 @@ pub struct NumberLimit {
     pub what: Counted,
 }
 
-/// Why the line of this number is refused, which has this limit and is not right: the number after its keyword passes the limit,
-/// whatever follows; else it is wrong.
+/// The refusal of a line that is not right, with its number and its limit. If the number after the keyword passes the limit, this
+/// is the reason, whatever follows. Otherwise the line is wrong.
 pub fn refused_line(limit: &NumberLimit, line: u32, bytes: &[u8]) -> GateFault
     ensures { IsTried (limit_seen limit.now) bytes.now line result }
 {

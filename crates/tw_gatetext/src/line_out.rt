@@ -8,7 +8,7 @@ use crate::writing::write_gate;
 use tw_gate::{Gate, GateOut, Stopped};
 use tw_io::{Sink, WriteFault};
 
-/// Writes the line of each gate that it takes to a sink, as [`write_gate`] does. It takes no memory.
+/// Writes the line of each gate that it takes to a sink, as [`write_gate`] does. Does not allocate.
 ///
 /// A gate fits if the numbers of its controls and of its wires are within their limits.
 #[derive(Drop)]

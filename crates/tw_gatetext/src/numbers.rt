@@ -1,4 +1,4 @@
-//! Numbers at the start of a text.
+//! Numbers at the start of bytes.
 ghost use Rattle.std.specs.Prelude.{◌≡◌, ℕ, ◌<◌, ◌^◌, List, codes, decimal, ◌++◌, IfSome};
 ghost use Rattle.std.specs.Option.{IfNone};
 ghost use Rattle.tw_text.specs.Digits.{digit_run};
@@ -6,8 +6,8 @@ ghost use Rattle.tw_gatetext.specs.Numerals.{Shows, IsNumeral};
 
 use tw_text::{after, read_decimal, split_digits};
 
-/// The number that the longest run of digits at the start writes, without leading zero; the greatest `u64` for all larger
-/// numbers. `None` if no digit is there, or a leading zero before a further digit.
+/// The number that the longest prefix of digits writes, without leading zero; the greatest `u64` for all larger numbers.
+/// `None` if that prefix is empty, or has a leading zero before a further digit.
 pub fn number_shown(bytes: &[u8]) -> Option<u64>
     ensures some { IfSome result (λ number. Shows bytes.now number) }
     ensures none { IfNone result ((number : ℕ) → ¬ Shows bytes.now number) }
@@ -21,7 +21,7 @@ pub fn number_shown(bytes: &[u8]) -> Option<u64>
     }
 }
 
-/// The number of 64 bits at the start, and what follows its digits.
+/// The number of 64 bits at the start, and the bytes after its digits.
 pub fn number_at(bytes: &[u8]) -> Option<(u64, &[u8])>
     ensures some { IfSome result (λ found. bytes.now ≡ decimal found.0 ++ found.1.now) }
     ensures whole { IfSome result (λ found. digit_run bytes.now ≡ decimal found.0) }
@@ -31,7 +31,7 @@ pub fn number_at(bytes: &[u8]) -> Option<(u64, &[u8])>
     Some((number, &bytes[used..]))
 }
 
-/// The number of 64 bits that is the rest of a line, and what follows the line.
+/// The number of 64 bits that is the rest of a line, and the bytes after the line.
 pub fn number_line(bytes: &[u8]) -> Option<(u64, &[u8])>
     ensures some { IfSome result (λ found. bytes.now ≡ decimal found.0 ++ (codes "\n" ++ found.1.now)) }
     ensures none { IfNone result ((number : ℕ) (rest : List ℕ) → number < 2 ^ 64 → ¬ (bytes.now ≡ decimal number ++ (codes "\n" ++ rest))) }
@@ -41,7 +41,7 @@ pub fn number_line(bytes: &[u8]) -> Option<(u64, &[u8])>
     Some((number, rest))
 }
 
-/// The digits of the number, of any size, that is the rest of a line, and what follows the line.
+/// The digits of the number, of any size, that is the rest of a line, and the bytes after the line.
 pub fn numeral_line(bytes: &[u8]) -> Option<(&[u8], &[u8])>
     ensures some { IfSome result (λ found. IsNumeral found.0.now × (bytes.now ≡ found.0.now ++ (codes "\n" ++ found.1.now))) }
     ensures none { IfNone result ((numeral rest : List ℕ) → IsNumeral numeral → ¬ (bytes.now ≡ numeral ++ (codes "\n" ++ rest))) }

@@ -10,7 +10,7 @@ const EXAMPLE: &[u8] =
 const OF_LEVEL_T: &[u8] =
     b"tower-gates 1\nlevel t\nwires 3\ngates 6\nt-count 3\nh 2\nt 1\ntdg 0\ncx 0 1\nx 2\nt 1\nend\n";
 
-/// The fault of a text, where it has one.
+/// The fault of a text, if it has one.
 fn fault_of(alloc: Global, text: &[u8]) -> Option<GateFault> {
     read_gates(alloc, text).err()
 }
@@ -28,7 +28,7 @@ fn over(what: Counted, found: u64, limit: u64) -> Option<GateFault> {
     }))
 }
 
-/// The third gate of a list, where it has one.
+/// The third gate of a list, if it has one.
 fn third(gates: &GateList) -> Option<Gate<'_>> {
     if gates.len() > 2 {
         Some(gates.gate(2))

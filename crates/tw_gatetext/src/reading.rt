@@ -30,7 +30,7 @@ const CONTROLS: NumberLimit = NumberLimit {
     what: Counted::Controls,
 };
 
-/// Why the line of this number is refused that is no right gate line.
+/// The refusal of the line of this number, which is no right gate line.
 fn refused_gate_line(level: Level, line: u32, bytes: &[u8]) -> GateFault
     ensures refused { (head : Head) (gates : List PlainGate) → head.level ≡ level → length gates < head.gates
         → ((next : Progress) (rest : List ℕ) → ¬ StepsTo (InBody head gates) bytes.now next rest) → IsRefusedLine (InBody head gates) bytes.now line result }
@@ -56,7 +56,8 @@ fn right_gate<'n>(header: &Header, word: &[u8], numbers: &'n Numbers) -> Option<
     }
 }
 
-/// Takes the gate line of this number: appends its gate to the list, and gives the T-count of the gate and what follows the line.
+/// Takes the gate line of this number: appends its gate to the list. Returns the T-count of the gate, and the bytes after the
+/// line.
 /// What the buffer of the line's numbers held is lost.
 fn take_gate<'b>(
     header: &Header,
@@ -83,7 +84,7 @@ fn take_gate<'b>(
     }
 }
 
-/// The gates after a header, with their T-count, and what follows their lines.
+/// The gates after a header, their T-count, and the bytes after their lines.
 #[derive(Drop)]
 struct Body<'b> {
     gates: GateList,
@@ -117,7 +118,7 @@ fn read_body<'b>(alloc: Global, header: &Header, bytes: &'b [u8]) -> Result<Body
     })
 }
 
-/// What follows the last line.
+/// The bytes after the last line.
 fn last_line(bytes: &[u8]) -> Option<&[u8]>
     ensures some { IfSome result (λ rest. (head : Head) (gates : List PlainGate) → length gates ≡ head.gates → StepsTo (InBody head gates) bytes.now (Whole head gates) rest.now) }
     ensures none { IfNone result ((head : Head) (gates : List PlainGate) → length gates ≡ head.gates → IsWrong (InBody head gates) bytes.now) }
@@ -125,7 +126,7 @@ fn last_line(bytes: &[u8]) -> Option<&[u8]>
     after(bytes, b"end\n")
 }
 
-/// The gate file at the start of the bytes, and what follows it.
+/// The gate file at the start of the bytes, and the bytes after it.
 fn file_at(alloc: Global, bytes: &[u8]) -> Result<(GateFile, &[u8]), GateFault>
     ensures file { IfOk result (λ read. BeginsWith bytes.now (plain_file read.0) read.1.now) }
     ensures refused { IfErr result (λ why. (why ≡ fault.Memory) ⊎ IsRefusedText bytes.now why) }
@@ -151,9 +152,9 @@ fn file_at(alloc: Global, bytes: &[u8]) -> Result<(GateFile, &[u8]), GateFault>
 
 /// Reads the gate file at the start of the bytes: the file, and the number of bytes that it takes.
 ///
-/// The errors: the first line that is wrong in its place, or is missing; a limit that the number of wires, the number of gates
-/// or, at level mcx, the number of controls passes; the line of the T-count, once all lines are read, if it is not that of
-/// the gates; out of memory. Nothing is copied but the gates. `docs/FORMATS.md` has the text and the order of its refusals.
+/// The errors: the first line that is wrong or missing; a limit that the number of wires, the number of gates or, at level mcx,
+/// the number of controls passes; line 5, once all lines are read, if its T-count is not that of the gates; out of memory.
+/// Nothing is copied but the gates. `docs/FORMATS.md` has the text and the order of its refusals.
 pub fn read_gates(alloc: Global, bytes: &[u8]) -> Result<(GateFile, usize), GateFault>
     ensures file { IfOk result (λ read. BeginsWith bytes.now (plain_file read.0) (drop read.1 bytes.now)) }
     ensures size { IfOk result (λ read. read.1 ≡ length (file_text (plain_file read.0))) }

@@ -1,3 +1,4 @@
+//! Gate files that are written: whole files, lines by a taker, device faults, and the texts of the errors.
 ghost use Rattle.std.specs.Prelude.{◌≡◌, ◌<◌, ◌≤◌, [], ◌∷◌, length, take, Some, IfOk, OnErr};
 ghost use Rattle.tw_io.specs.Devices.{Appends, Rose, Wrote};
 ghost use Rattle.tw_gate.specs.Gates.{plain};
@@ -33,7 +34,7 @@ const EXAMPLE: &[u8] = b"tower-gates 1\nlevel mcx\nwires 7\ngates 5\nt-count 7\n
 
 const LEVEL_T: &[u8] = b"tower-gates 1\nlevel t\nwires 2\ngates 2\nt-count 1\nh 1\ntdg 0\nend\n";
 
-/// Reads the gate file that a text is, and writes it.
+/// Reads the gate file that a text is, and writes it again.
 fn write_back<K: Sink>(alloc: Global, text: &[u8], sink: &mut K) -> bool {
     match read_gates(alloc, text) {
         Ok((file, _)) => write_gate_file(sink, &file).is_ok(),

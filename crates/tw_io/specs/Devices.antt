@@ -1,4 +1,4 @@
--- What byte devices tell of themselves, and what a call took from a source or gave to a sink.
+-- What byte devices report, and what a call took from a source or gave to a sink.
 use Rattle.std.specs.Prelude.{◌≡◌, ℕ, ◌+◌, ◌-◌, ◌^◌, ◌<◌, ◌≤◌, List, [], ◌∷◌, ◌++◌, length, min, max, Option, Some, None, Result, Err, OnOk, OnErr, IfSome, refl}
 use Rattle.tw_io.specs.declared.device.WriteFault.{WriteFault}
 use Rattle.tw_io.specs.declared.device.ReadError.{ReadError}
@@ -14,7 +14,7 @@ next_count-first = refl
 next_count-last : next_count 18446744073709551615 ≡ 18446744073709551615
 next_count-last = refl
 
--- the error counter rose, or stands at its greatest value; it never fell
+-- the error counter rose, or is at its greatest value; it never fell
 abbrev pub Rose : ℕ → ℕ → Type 0
 Rose before now = max before (next_count before) ≤ now
 
@@ -23,7 +23,7 @@ abbrev pub CountsRead : {V : Type 0} → Result V ReadError → ℕ → ℕ → 
 CountsRead (Err error.ReadFault) before now = Rose before now
 CountsRead other before now = now ≡ before
 
--- the source gave this piece, a prefix of what was left; it tells its bytes iff it told them before
+-- the source gave this piece, a prefix of what was left; it reports its bytes iff it reported them before
 abbrev pub Takes : Option (List ℕ) → Option (List ℕ) → List ℕ → Type 0
 Takes None None piece = Unit {0}
 Takes (Some before) (Some now) piece = before ≡ piece ++ now
@@ -49,11 +49,11 @@ pub record TakesExactly (before now : Option (List ℕ)) (count : ℕ) : Type 0 
   pub counted : length bytes ≡ count
   pub taken : Takes before now bytes
 
--- nothing is left, if the source tells its bytes
+-- nothing is left, if the source reports its bytes
 abbrev pub IsAtEnd : Option (List ℕ) → Type 0
 IsAtEnd left = IfSome left (λ bytes. bytes ≡ [])
 
--- the sink took this piece after what it had taken; it tells its bytes iff it told them before
+-- the sink took this piece after what it had taken; it reports its bytes iff it reported them before
 abbrev pub Appends : Option (List ℕ) → Option (List ℕ) → List ℕ → Type 0
 Appends None None piece = Unit {0}
 Appends (Some before) (Some now) piece = now ≡ before ++ piece

@@ -30,7 +30,7 @@ pub enum ReadError {
 
 /// A device that gives bytes in order.
 ///
-/// `left` is the bytes that remain, or `None` if the device does not tell them.
+/// `left` is the bytes that remain, or `None` if the device does not report them.
 /// `faults` is the error counter: the number of failed reads. It saturates at the greatest `u64`.
 pub trait Source {
     ghost left: { Self → Option (List ℕ) };
@@ -54,7 +54,7 @@ pub trait Source {
 
 /// A device that takes bytes in order.
 ///
-/// `taken` is the bytes that it took so far, or `None` if the device does not tell them.
+/// `taken` is the bytes that it took so far, or `None` if the device does not report them.
 /// `faults` is the error counter: the number of failed writes. It saturates at the greatest `u64`.
 pub trait Sink {
     ghost taken: { Self → Option (List ℕ) };

@@ -1,7 +1,7 @@
 #![tactic(auto)]
 
 //! Byte sources and sinks: whole reads and writes over them, devices in memory, and the standard
-//! streams. Each device has an error counter, and may tell the bytes that it has left or has taken.
+//! streams. Each device has an error counter, and may report the bytes that it has left or has taken.
 
 mod device;
 mod memory;

@@ -13,7 +13,7 @@ loaded is k bits = if is && true then flipped bits k else bits
 abbrev flipped_by_both : List Bool → List Bool
 flipped_by_both bits = if bit_at bits 1 && (bit_at bits 2 && true) then flipped bits 0 else bits
 
--- loads, the flip and the loads uncomputed change the result alone
+-- the loads, the flip and the loads uncomputed change only the result
 by_cases : (x y out : Bool) → loaded x 1 (loaded y 2 (flipped_by_both (loaded y 2 (loaded x 1 (out ∷ false ∷ false ∷ []))))) ≡ (if x && y then not out else out) ∷ false ∷ false ∷ []
 by_cases true true out = refl
 by_cases true false out = refl

@@ -1,4 +1,4 @@
--- The circuit of a function that is one `&&` does what the function means.
+-- The circuit of a function that is one `&&` implements the function.
 use Rattle.std.proofs.Common.{◌≡◌, ◌≢◌, ◌∙◌, ℕ, ◌+◌, Bool, true, false, not, ◌&&◌, if◌then◌else◌, List, [], ◌∷◌, ◌++◌, length, map, flat_map, Option, Some, None, refl, ap, sym, subst, arith, append_assoc, length-append, Contains}
 use Rattle.std.specs.List.{AllByRecursion}
 use Rattle.std.proofs.lemmas.Grind.{flat_map-append}
@@ -31,12 +31,12 @@ record Conjoined (function : Function) (left right : Name) (start end : State) :
   pub right_is : start.store right ≡ Some (Truth y)
   pub end_is : end ≡ record start { store = with_value start.store function.result.name (Truth (x && y)) }
 
--- `&&` has a value where both values are truth values
+-- `&&` has a value if both values are truth values
 operands_are : (widths : Widths) (left right value : Value) → operator_value widths And left right ≡ Some value → (x y : Bool) × (left ≡ Truth x) × (right ≡ Truth y) × (value ≡ Truth (x && y))
 operands_are widths (Truth x) (Truth y) value evaluates = (x, y, refl, refl, cc)
 operands_are widths left right value evaluates = cc
 
--- and so it is with operands
+-- the same for operands
 both_are : (widths : Widths) (left right : Option Value) (value : Value) → both_values widths And left right ≡ Some value → (x y : Bool) × (left ≡ Some (Truth x)) × (right ≡ Some (Truth y)) × (value ≡ Truth (x && y))
 both_are widths (Some left) (Some right) value evaluates =
     let are = operands_are widths left right value evaluates in
@@ -44,7 +44,7 @@ both_are widths (Some left) (Some right) value evaluates =
 both_are widths (Some left) None value evaluates = cc
 both_are widths None right value evaluates = cc
 
--- what holds of all of a list holds of its last
+-- a property of all elements of a list is a property of the last
 pub all_last : {X : Type 0} (P : X → Type 0) (xs : List X) (x : X) → AllByRecursion P (xs ++ x ∷ []) → P x
 all_last P [] x all = all.0
 all_last P (other ∷ xs) x all = all_last P xs x all.1
@@ -67,7 +67,7 @@ function_gates-conjunction widths targets {function} {left} {right} is =
     ∙ ap (λ (out : ℕ). and_gates (wire left) (wire right) out scratch)
     (wire_from-after widths function.result [] function.parameters is.fresh (layout_of widths targets function).args)
 
--- the circuit reads the same in both directions
+-- the circuit is the same in both directions
 pub inverse-conjunction : (widths : Widths) (targets : List Target) {function : Function} {left right : Name} → IsConjunction function left right → inverse (function_gates widths targets function) ≡ function_gates widths targets function
 inverse-conjunction widths targets is = rw (function_gates-conjunction widths targets is)
 
@@ -96,7 +96,7 @@ module _ {widths : Widths} {targets : List Target} {function : Function} {left r
   prefix : List Bool
   prefix = memory_bits widths targets start ++ flat_map (variable_bits widths start.store) function.parameters
 
-  -- they reach up to the result
+  -- these bits reach up to the result
   length_prefix : length prefix ≡ (layout_of widths targets function).out
   unfolding prefix
   length_prefix =
@@ -160,13 +160,13 @@ module _ {widths : Widths} {targets : List Target} {function : Function} {left r
   takes : act (function_gates widths targets function) (encoded_at_start (layout_of widths targets function).wires widths targets function start) ≡ encoded_at_end (layout_of widths targets function).wires widths targets function end
   takes = rw (start_bits, end_bits) (changes false ∙ rw (from_zero (conjoined.x && conjoined.y)))
 
-  -- and its inverse undoes this
+  -- the inverse of the circuit undoes this
   undoes : act (inverse (function_gates widths targets function)) (encoded_at_end (layout_of widths targets function).wires widths targets function end) ≡ encoded_at_start (layout_of widths targets function).wires widths targets function start
   undoes =
       rw (start_bits, end_bits, inverse-conjunction widths targets is)
       (changes (conjoined.x && conjoined.y) ∙ rw (to_zero (conjoined.x && conjoined.y)))
 
--- the circuit of a function that is one `&&` does what the function means
+-- the circuit of a function that is one `&&` implements the function
 pub implements : {widths : Widths} {targets : List Target} {function : Function} {left right : Name} → IsConjunction function left right → Implements widths targets function (layout_of widths targets function).wires (function_gates widths targets function)
 implements {widths} {targets} {function} is = record {
   at_start = λ start end does. start_fills is does;

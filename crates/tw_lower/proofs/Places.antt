@@ -16,7 +16,7 @@ use Rattle.tw_lower.specs.Circuits.{function_gates}
 use Rattle.tw_lower.specs.Correct.{IsConjunction}
 use Rattle.tw_lower.proofs.Implemented.{all_last, function_gates-conjunction}
 
--- what holds of all of a list and one more holds of all of the list
+-- a property of all elements of a list and one more is a property of all elements of the list
 all_before : {X : Type 0} (P : X → Type 0) (xs : List X) (x : X) → AllByRecursion P (xs ++ x ∷ []) → AllByRecursion P xs
 all_before P [] x all = tt
 all_before P (other ∷ xs) x all = (all.0, all_before P xs x all.1)
@@ -30,7 +30,7 @@ layout-conjunction widths {function} is booleans =
     ∙ ap (λ (n : ℕ). regions widths widths.addr (length function.parameters) n (scratch_size function.body)) (size-truth widths result)
     ∙ ap (λ (n : ℕ). regions widths widths.addr (length function.parameters) 1 n) (ap scratch_size is.body)
 
--- where the variables lie, without targets
+-- the first wires of the variables, without targets
 pub record Places (widths : Widths) (function : Function) (left right : Name) : Type 0 where
   pub arguments_at : (layout_of widths [] function).args ≡ widths.addr + (2 ^ widths.addr - 1) * widths.addr
   pub result_at : (layout_of widths [] function).out ≡ (layout_of widths [] function).args + length function.parameters
@@ -41,7 +41,7 @@ pub record Places (widths : Widths) (function : Function) (left right : Name) : 
   pub right_from : (layout_of widths [] function).args ≤ wire_of widths [] function right
   pub right_below : wire_of widths [] function right < (layout_of widths [] function).out
 
--- the places of the variables, where all of them are truth values
+-- the places of the variables, if all of them are truth values
 pub places : (widths : Widths) {function : Function} {left right : Name} → IsConjunction function left right → AreBoolean (variables_at_end function) → Places widths function left right
 places widths {function} {left} {right} is booleans =
     let layout = layout_of widths [] function in

@@ -1,10 +1,10 @@
--- Gates whose targets lie after a prefix, which they leave unchanged.
+-- Gates whose targets lie after a prefix leave the prefix unchanged.
 use Rattle.std.proofs.Common.{◌≡◌, ◌∙◌, ℕ, ◌+◌, Bool, true, false, if◌then◌else◌, List, [], ◌∷◌, ◌++◌, length, refl, ap, suc-add, zero-add}
 use Rattle.tw_bits.specs.Lists.{bit_at, flipped}
 use Rattle.tw_gate.specs.Gates.{PlainGate, X, all_one, act}
 use Rattle.tw_gate.proofs.Act.{act-append}
 
--- the gates take the old suffix to the new one, and the prefix stays
+-- the gates take the old suffix to the new one, and the prefix is unchanged
 pub record Changes (prefix : List Bool) (gates : List PlainGate) (old new : List Bool) : Type 0 where
   pub acts : act gates (prefix ++ old) ≡ prefix ++ new
 
@@ -25,7 +25,7 @@ changes-gate controls prefix suffix k test is = record { acts = rw is (by test) 
   by true = flipped-suffix prefix suffix k
   by false = refl
 
--- some gates, and then others
+-- some gates, then others
 pub changes-then : {prefix old between new : List Bool} {xs ys : List PlainGate} → Changes prefix xs old between → Changes prefix ys between new → Changes prefix (xs ++ ys) old new
 changes-then {prefix} {old} {xs = xs} {ys} first second =
     record { acts = act-append xs ys (prefix ++ old) ∙ (ap (act ys) first.acts ∙ second.acts) }

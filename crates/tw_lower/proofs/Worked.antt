@@ -8,7 +8,7 @@ use Rattle.tw_lower.specs.Circuits.{function_gates}
 use Rattle.tw_lower.specs.Correct.{Implements, IsConjunction}
 use Rattle.tw_lower.proofs.Implemented.{implements}
 
--- names that fail the test are apart
+-- names that fail the test are different
 apart : (x y : Name) → bytes_eq x y ≡ false → x ≢ y
 apart x y test = not_from_Decides (bytes_eq x y) (bytes_eq-Decides x y) test
 
@@ -21,6 +21,6 @@ main_is_conjunction = record {
   right_known = (1, omega arith, refl);
 }
 
--- seven wires and five gates do what `main` means
+-- seven wires and five gates implement `main`
 pub main_implements : Implements one_bit [] main 7 (function_gates one_bit [] main)
 main_implements = implements main_is_conjunction

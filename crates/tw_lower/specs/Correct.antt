@@ -1,4 +1,4 @@
--- What it means that a circuit implements a function.
+-- When a circuit implements a function.
 use Rattle.std.specs.Prelude.{◌≡◌, ◌≢◌, ℕ, length, List, map, Contains}
 use Rattle.std.specs.List.{AllByRecursion}
 use Rattle.tw_gate.specs.Gates.{PlainGate, act, inverse}
@@ -9,8 +9,8 @@ use Rattle.tw_state.specs.Typing.{HasResult, variables_at_end}
 use Rattle.tw_state.specs.Renaming.{Permutation, renamed}
 use Rattle.tw_state.specs.Encoding.{encoded_at_start, encoded_at_end, IsInjective}
 
--- On so many wires, which hold all bits of an encoding, the gates take the encoding of each state on which the function has
--- a result to the encoding of that result, every other wire zero, and their inverse takes it back. Renaming the blocks
+-- On this number of wires, which hold all bits of an encoding, the gates take the encoding of each state on which the function
+-- has a result to the encoding of that result, every other wire zero, and their inverse takes it back. Renaming the blocks
 -- commutes with this. At the start and at the end the encoding is injective, and each result is well-formed.
 pub record Implements (widths : Widths) (targets : List Target) (function : Function) (wires : ℕ) (gates : List PlainGate) : Type 0 where
   pub at_start : (start end : State) → HasResult widths targets function start end → length (encoded_at_start wires widths targets function start) ≡ wires
@@ -26,7 +26,7 @@ pub record Implements (widths : Widths) (targets : List Target) (function : Func
   pub injective_at_end : IsInjective wires widths targets (variables_at_end function)
   pub result_well_formed : (start end : State) → HasResult widths targets function start end → IsWellFormed end
 
--- the function's result is the `&&` of two of its parameters, and has another name than each of its parameters
+-- the function's result is the `&&` of two of its parameters, and its name differs from the name of each parameter
 pub record IsConjunction (function : Function) (left right : Name) : Type 0 where
   pub body : function.body ≡ Then (Let function.result.name (Binary And (Var left) (Var right))) Skip
   pub fresh : AllByRecursion (λ parameter. parameter.name ≢ function.result.name) function.parameters

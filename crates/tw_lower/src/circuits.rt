@@ -5,9 +5,9 @@ ghost use Rattle.tw_lower.specs.Circuits.{and_gates};
 use std::alloc::AllocError;
 use tw_gate::{Gate, GateList};
 
-/// Appends the circuit that flips `out` where the wires `left` and `right` are both 1: it copies them into the wires `scratch`
-/// and `scratch + 1`, which are 0, flips `out` by both copies, and uncomputes the copies.
-/// An error: there is no memory for all five gates, and the list may have the first of them.
+/// Appends the circuit that flips `out` if the wires `left` and `right` are both 1. It copies them into the wires `scratch` and
+/// `scratch + 1`, which are 0, flips `out` by both copies, and uncomputes the copies.
+/// An error: out of memory for the five gates. The list may have the first of them.
 pub fn push_and(
     gates: &mut GateList,
     left: u32,

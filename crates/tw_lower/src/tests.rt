@@ -1,3 +1,4 @@
+//! The gates of one conjunction.
 use crate::push_and;
 use std::test::Fail;
 use tw_gate::{Gate, GateList};

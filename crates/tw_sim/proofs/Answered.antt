@@ -6,14 +6,14 @@ use Rattle.tw_sim.specs.BitLines.{bit_lines, HaveWires, AreLinesOf}
 use Rattle.tw_sim.proofs.Laws.{bit_lines-front, bit_lines-tells}
 use Rattle.tw_sim.proofs.Reading.{bit_lines-append, HaveWires-append}
 
--- the lines in front of the rest are answered
+-- the lines before the rest are answered
 pub record AreAnswered (wires : ℕ) (gates : List PlainGate) (text rest answer : List ℕ) : Type 0 where
   pub states : List (List Bool)
   pub wide : HaveWires wires states
   pub spelled : text ≡ bit_lines states ++ rest
   pub answered : answer ≡ bit_lines (map (act gates) states)
 
--- right lines stand behind them
+-- right lines follow them
 pub right_left : {wires : ℕ} {gates : List PlainGate} {text rest answer : List ℕ} → AreAnswered wires gates text rest answer → (states : List (List Bool)) × AreLinesOf wires text states → (left : List (List Bool)) × AreLinesOf wires rest left
 right_left {wires} {rest} begun right =
     let split = bit_lines-front wires right.0 begun.states rest right.1.wide begun.wide (sym right.1.spelled ∙ begun.spelled) in (
@@ -21,7 +21,7 @@ right_left {wires} {rest} begun right =
       record { spelled = split.3; wide = split.2; few = omega (arith, right.1.few, ap length split.1, length-append begun.states split.0) },
     )
 
--- and so are the next ones
+-- the next lines are answered too
 pub answered_more : {wires : ℕ} {gates : List PlainGate} {text rest answer : List ℕ} (behind now : List ℕ) → AreAnswered wires gates text rest answer →
     (next : List (List Bool)) × HaveWires wires next × (rest ≡ bit_lines next ++ behind) × (now ≡ answer ++ bit_lines (map (act gates) next)) → AreAnswered wires gates text behind now
 answered_more {wires} {gates} {rest} behind now begun next = record {
@@ -39,7 +39,7 @@ answered_more {wires} {gates} {rest} behind now begun next = record {
       ∙ ap bit_lines (sym (map-append (act gates) begun.states next.0));
 }
 
--- all of them are answered
+-- all lines are answered
 pub answered_all : {wires : ℕ} {gates : List PlainGate} {text rest answer : List ℕ} → AreAnswered wires gates text rest answer → (states : List (List Bool)) × AreLinesOf wires text states → rest ≡ [] →
     (states : List (List Bool)) × AreLinesOf wires text states × (answer ≡ bit_lines (map (act gates) states))
 answered_all {wires} {text} begun right none =

@@ -1,4 +1,4 @@
--- The first lanes of words: one more of them, and all of them after gates.
+-- The first lanes of words: one lane more, and all of them after gates.
 use Rattle.std.proofs.Common.{◌≡◌, ◌≢◌, ◌∙◌, ap, sym, refl, ℕ, zero, suc, ◌+◌, ◌<◌, ◌≤◌, Bool, false, List, [], ◌∷◌, ◌++◌, length, nat_eq, map, replicate, append_assoc, append-nil, arith}
 use Rattle.std.specs.List.{range_with_len}
 use Rattle.std.proofs.lemmas.List.{length-map, length-replicate, map-id}
@@ -40,7 +40,7 @@ HaveWires-lanes wires count words size = wide 0 count
     wide from zero = tt
     wide from (suc count) = (length-map words (number_bit from) ∙ sym size, wide (from + 1) count)
 
--- the lines in front of the rest stand in the first lanes, and the other lanes are 0
+-- the lines before the rest are in the first lanes, and the other lanes are 0
 pub record AreLoaded (text rest words : List ℕ) (count : ℕ) : Type 0 where
   pub few : count ≤ 64
   pub read : text ≡ bit_lines (lanes count words) ++ rest
@@ -58,7 +58,7 @@ loaded_none text words n none =
     let size : n ≡ length words = sym (ap length none ∙ length-replicate n 0) in
     record { few = omega arith; read = refl; zeros = λ later from. ap (lane later) none ∙ zero_lane later n ∙ ap (λ k. replicate k false) size }
 
--- a line stands in front of the rest
+-- the rest begins with a line
 pub loaded_next : {text rest words : List ℕ} {count : ℕ} (wires : ℕ) → wires ≡ length words → AreLoaded text rest words count → (states : List (List Bool)) × AreLinesOf wires text states → rest ≢ [] →
     (bits : List Bool) × (behind : List ℕ) × (length bits ≡ length words) × (rest ≡ bit_line bits ++ behind)
 loaded_next {rest} {words} {count} wires size loaded right some =
@@ -69,7 +69,7 @@ loaded_next {rest} {words} {count} wires size loaded right some =
     first_line [] wide is = absurd (some is)
     first_line (bits ∷ left) wide is = (bits, bit_lines left, wide.0 ∙ size, is)
 
--- the other lanes stay when one more is loaded
+-- loading one more lane does not change the other lanes
 lanes_kept : (count : ℕ) (words new : List ℕ) → ((other : ℕ) → other ≢ count → lane other new ≡ lane other words) → lanes count new ≡ lanes count words
 lanes_kept count words new others =
     same_over (λ place. lane place new) (λ place. lane place words) (λ bits. bits) 0 count (λ place below. others place (λ e. omega arith)) ∙ map-id (lanes count words)

@@ -1,4 +1,4 @@
--- The line at the front of a text.
+-- The line that a text begins with.
 use Rattle.std.proofs.Common.{◌≡◌, ◌∙◌, ap, sym, refl, ℕ, ◌+◌, ◌-◌, ◌<◌, nat_eq, Bool, true, false, ◌||◌, List, [], ◌∷◌, ◌++◌, length, map, take, drop, get_or, append_assoc, length-append, inl, inr, arith}
 use Rattle.std.specs.List.{list_all}
 use Rattle.std.proofs.lemmas.Bool.{and_parts, or_cases, eqb-true}
@@ -34,7 +34,7 @@ all_digits [] = refl
 all_digits (true ∷ bits) = all_digits bits
 all_digits (false ∷ bits) = all_digits bits
 
--- a newline behind digits ends a line
+-- digits followed by a newline are a line
 pub line_read : (wires : ℕ) (text : List ℕ) → wires < length text → get_or text wires 0 ≡ 10 → list_all is_digit (take wires text) ≡ true → (bits : List Bool) × (length bits ≡ wires) × (text ≡ bit_line bits ++ drop (wires + 1) text)
 line_read wires text inside newline digits =
     let bits : List Bool = map digit_bit (take wires text) in
@@ -47,7 +47,7 @@ line_read wires text inside newline digits =
           ∙ sym (append_assoc (map bit_digit bits) (10 ∷ []) (drop (wires + 1) text)),
     )
 
--- a line at the front has a newline behind its digits
+-- a line that a text begins with is its digits, then a newline
 module _ (wires : ℕ) (text : List ℕ) (bits : List Bool) (rest : List ℕ) (wide : length bits ≡ wires) (is : text ≡ bit_line bits ++ rest) where
   front : text ≡ map bit_digit bits ++ 10 ∷ rest
   front = is ∙ append_assoc (map bit_digit bits) (10 ∷ []) rest
@@ -66,7 +66,7 @@ module _ (wires : ℕ) (text : List ℕ) (bits : List Bool) (rest : List ℕ) (w
   pub line-all_digits : list_all is_digit (take wires text) ≡ true
   line-all_digits = ap (list_all is_digit) line-digits ∙ all_digits bits
 
-  -- the bits of the digits at the front are its bits
+  -- the bits of the digits at the start are the bits of the line
   pub line_loaded : (loaded : List Bool) → loaded ≡ map digit_bit (take wires text) → text ≡ bit_line loaded ++ take (length text - (wires + 1)) (drop (wires + 1) text)
   line_loaded loaded are =
       let same : loaded ≡ bits = are ∙ ap (map digit_bit) line-digits ∙ bits_of-digits bits in

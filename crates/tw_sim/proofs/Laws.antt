@@ -1,4 +1,4 @@
--- The laws of lines of bits: a text tells its states, is not both right and refused, and is refused for one reason.
+-- The laws of lines of bits: a text determines its states, is not both right and refused, and is refused for at most one reason.
 use Rattle.std.proofs.Common.{◌≡◌, ◌≢◌, ◌∙◌, ap, sym, refl, ℕ, ◌+◌, ◌<◌, ◌≤◌, Bool, true, false, List, [], ◌∷◌, ◌++◌, length, append_assoc, length-append, arith}
 use Rattle.tw_sim.specs.BitLines.{bit_digit, bit_line, bit_lines, HaveWires, AreLinesOf, HasNoLine, AreRefused, WrongLine, TooMany}
 use Rattle.tw_sim.specs.declared.lines.LinesFault.{LinesFault}
@@ -10,7 +10,7 @@ bit_digit-tells true true e = refl
 bit_digit-tells false true e = absurd (omega arith)
 bit_digit-tells true false e = absurd (omega arith)
 
--- a line tells its bits, and what stands behind it
+-- a line determines its bits, and the text after it
 bit_line-tells : (bits other : List Bool) (rest behind : List ℕ) → length bits ≡ length other → bit_line bits ++ rest ≡ bit_line other ++ behind → (bits ≡ other) × (rest ≡ behind)
 bit_line-tells [] [] rest behind count e = (refl, cc)
 bit_line-tells [] (b ∷ other) rest behind count e = cc
@@ -25,7 +25,7 @@ bit_line-some : (bits : List Bool) (rest : List ℕ) → [] ≢ bit_line bits ++
 bit_line-some [] rest e = cc
 bit_line-some (b ∷ bits) rest e = cc
 
--- right lines at the front of right lines are the first of them
+-- right lines that are a prefix of right lines are the first of them
 pub bit_lines-front : (wires : ℕ) (states front : List (List Bool)) (rest : List ℕ) → HaveWires wires states → HaveWires wires front → bit_lines states ≡ bit_lines front ++ rest →
     (left : List (List Bool)) × (states ≡ front ++ left) × HaveWires wires left × (rest ≡ bit_lines left)
 bit_lines-front wires states [] rest wide wide' e = (states, refl, wide, sym e)
@@ -37,7 +37,7 @@ bit_lines-front wires (first ∷ states) (bits ∷ front) rest wide wide' e =
     let others = more.1 in
     (more.0, (cc), more.2, more.3)
 
--- a text tells its states
+-- a text determines its states
 pub bit_lines-tells : (wires : ℕ) (states other : List (List Bool)) → HaveWires wires states → HaveWires wires other → bit_lines states ≡ bit_lines other → states ≡ other
 bit_lines-tells wires [] [] wide wide' e = refl
 bit_lines-tells wires [] (bits ∷ other) wide wide' e = absurd (bit_line-some bits _ e)
@@ -48,7 +48,7 @@ bit_lines-tells wires (bits ∷ states) (bits' ∷ other) wide wide' e =
     let others = bit_lines-tells wires states other wide.1 wide'.1 both.1 in
     cc
 
--- where no line follows, no more right lines stand at the front
+-- if no line follows, there are no more right lines at the start
 bit_lines-most : (wires : ℕ) (states other : List (List Bool)) (rest behind : List ℕ) → HaveWires wires states → HaveWires wires other → HasNoLine wires rest → bit_lines states ++ rest ≡ bit_lines other ++ behind → length other ≤ length states
 bit_lines-most wires states [] rest behind wide wide' none e = omega arith
 bit_lines-most wires [] (bits ∷ other) rest behind wide wide' none e = absurd (none bits _ wide'.0 (e ∙ append_assoc (bit_line bits) (bit_lines other) behind))
@@ -74,7 +74,7 @@ right_not_refused wires text states why right (TooMany front rest spelled wide m
     let split = bit_lines-front wires states front rest right.wide wide (sym right.spelled ∙ spelled) in
     omega (arith, right.few, many, some_left split.0 rest split.3 some, ap length split.1, length-append front split.0)
 
--- a text is refused for one reason
+-- a text is refused for at most one reason
 pub one_reason : (wires : ℕ) (text : List ℕ) (why other : LinesFault) → AreRefused wires text why → AreRefused wires text other → other ≡ why
 one_reason wires text why other (WrongLine states rest spelled wide few some none is) (WrongLine states' rest' spelled' wide' few' some' none' is') =
     let most = bit_lines-most wires states states' rest rest' wide wide' none (sym spelled ∙ spelled') in

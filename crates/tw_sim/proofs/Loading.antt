@@ -12,17 +12,17 @@ use Rattle.tw_sim.proofs.FrontLine.{digit_bit}
 none_set : (place n : ℕ) → bit_or n (0 * 2 ^ place % 2 ^ 64) ≡ n
 none_set place n = let nothing : 0 * 2 ^ place % 2 ^ 64 ≡ 0 = omega arith in ap (bit_or n) nothing ∙ or_zero_r n
 
--- the bit that was 0 is the one that is set there
+-- the bit that was 0 has the value that `|` sets
 set_here : (place n : ℕ) (bit : Bool) (m : ℕ) → place < 64 → m ≡ bool_byte bit → number_bit place n ≡ false → number_bit place (bit_or n (m * 2 ^ place % 2 ^ 64)) ≡ bit
 set_here place n true m few is was = ap (λ k. number_bit place (bit_or n (k * 2 ^ place % 2 ^ 64))) is ∙ ap (λ k. nat_eq k 1) (bit_at_set_same w64 n place few)
 set_here place n false m few is was = ap (λ k. number_bit place (bit_or n (k * 2 ^ place % 2 ^ 64))) is ∙ ap (number_bit place) (none_set place n) ∙ was
 
--- and the other bits stay
+-- the other bits are unchanged
 set_other : (place other n : ℕ) (bit : Bool) (m : ℕ) → place < 64 → m ≡ bool_byte bit → other ≢ place → number_bit other (bit_or n (m * 2 ^ place % 2 ^ 64)) ≡ number_bit other n
 set_other place other n true m few is apart = ap (λ k. number_bit other (bit_or n (k * 2 ^ place % 2 ^ 64))) is ∙ ap (λ k. nat_eq k 1) (bit_at_set_other w64 n place few other apart)
 set_other place other n false m few is apart = ap (λ k. number_bit other (bit_or n (k * 2 ^ place % 2 ^ 64))) is ∙ ap (number_bit other) (none_set place n)
 
--- the lane has the bits of the first wires and no others, and the other lanes are as they were
+-- the lane has the bits of the first wires and no others, and the other lanes are unchanged
 pub record IsLoading (place : ℕ) (digits start words : List ℕ) (wire : ℕ) : Type 0 where
   pub loaded : take wire (lane place words) ≡ map digit_bit (take wire digits)
   pub zeros : (later : ℕ) → wire ≤ later → number_bit place (get_or words later 0) ≡ false

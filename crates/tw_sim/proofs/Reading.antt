@@ -15,14 +15,14 @@ pub HaveWires-append : (wires : ℕ) (states more : List (List Bool)) → HaveWi
 HaveWires-append wires [] more wide wide' = wide'
 HaveWires-append wires (bits ∷ states) more wide wide' = (wide.0, HaveWires-append wires states more wide.1 wide')
 
--- so many right lines precede the rest
+-- this number of right lines precedes the rest
 pub record AreRead (wires : ℕ) (text rest : List ℕ) (count : ℕ) : Type 0 where
   pub states : List (List Bool)
   pub spelled : text ≡ bit_lines states ++ rest
   pub wide : HaveWires wires states
   pub many : length states ≡ count
 
--- and one more
+-- one more right line precedes the rest
 pub read_more : {wires : ℕ} {text rest : List ℕ} {count : ℕ} (behind : List ℕ) → AreRead wires text rest count → (bits : List Bool) × (length bits ≡ wires) × (rest ≡ bit_line bits ++ behind) → AreRead wires text behind (count + 1)
 read_more behind read line = record {
   states = read.states ++ line.0 ∷ [];
@@ -35,7 +35,7 @@ read_more behind read line = record {
   many = omega (arith, read.many, length-append read.states (line.0 ∷ []));
 }
 
--- what `is_empty` says
+-- what `is_empty` returns
 pub no_bytes : (rest : List ℕ) (empty : Bool) → empty ≡ nat_eq (length rest) 0 → empty ≡ true → rest ≡ []
 no_bytes rest empty is other = nil_from_length rest (eqb-true (length rest) 0 (sym is ∙ other))
 
@@ -43,11 +43,11 @@ pub some_bytes : (rest : List ℕ) (empty : Bool) → empty ≡ nat_eq (length r
 some_bytes [] empty is other = λ e. cc
 some_bytes (byte ∷ rest) empty is other = λ e. cc
 
--- no line follows them
+-- no line follows the right lines
 pub read_wrong : {wires : ℕ} {text rest : List ℕ} {count : ℕ} → AreRead wires text rest count → count < STATES_LIMIT → rest ≢ [] → HasNoLine wires rest → AreRefused wires text (fault.BitsLength (count + 1))
 read_wrong {rest} read few some none =
     WrongLine read.states rest read.spelled read.wide (omega (arith, read.many)) some none (ap (λ n. fault.BitsLength (n + 1)) (sym read.many))
 
--- something follows as many as the limit
+-- as many right lines as the limit are followed by more
 pub read_many : {wires : ℕ} {text rest : List ℕ} {count : ℕ} → AreRead wires text rest count → count ≡ STATES_LIMIT → rest ≢ [] → AreRefused wires text (fault.Over too_many)
 read_many {rest} read many some = TooMany read.states rest read.spelled read.wide (read.many ∙ many) some refl

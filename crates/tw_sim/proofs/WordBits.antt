@@ -27,7 +27,7 @@ one_of_two (suc (suc m)) n few few' = absurd (omega arith)
 pub number_bit-and : (place a b : ℕ) → number_bit place (bit_and a b) ≡ number_bit place a && number_bit place b
 number_bit-and place a b = ap (λ n. nat_eq n 1) (bit_at_and a b place) ∙ both_one _ _ (bit_at-lt a place) (bit_at-lt b place)
 
--- `a ^ b` has the bits of `a`, those flipped where `b` has a 1
+-- `a ^ b` has the bits of `a`, flipped if `b` has a 1 there
 pub number_bit-xor : (place a b : ℕ) → number_bit place (bit_xor a b) ≡ cond (number_bit place b) (not (number_bit place a)) (number_bit place a)
 number_bit-xor place a b = ap (λ n. nat_eq n 1) (bit_at_xor a b place) ∙ one_of_two _ _ (bit_at-lt a place) (bit_at-lt b place)
 

@@ -27,22 +27,22 @@ bit_lines (bits ∷ states) = bit_line bits ++ bit_lines states
 abbrev pub HaveWires : ℕ → List (List Bool) → Type 0
 HaveWires wires states = AllByRecursion (λ bits. length bits ≡ wires) states
 
--- the text is the lines of these states, of so many wires each, and their number is within its limit
+-- the text is the lines of these states, with this number of wires each, and their number is within its limit
 pub record AreLinesOf (wires : ℕ) (text : List ℕ) (states : List (List Bool)) : Type 0 where
   pub spelled : text ≡ bit_lines states
   pub wide : HaveWires wires states
   pub few : length states ≤ STATES_LIMIT
 
--- the text begins with no line of so many bits
+-- the text does not begin with a line of this number of bits
 abbrev pub HasNoLine : ℕ → List ℕ → Type 0
 HasNoLine wires text = (bits : List Bool) (rest : List ℕ) → length bits ≡ wires → text ≢ bit_line bits ++ rest
 
--- the refusal of too many lines; one more than the limit is counted
+-- the refusal of too many lines; the limit and one more line are counted
 abbrev pub too_many : Refusal
 too_many = passed counted.States (STATES_LIMIT + 1) first_place
 
--- Why a text is not lines of so many bits: right lines, fewer than the limit, are followed by something else, and lines are
--- counted from 1; or as many right lines as the limit are followed by more, whatever it is.
+-- Why a text is not lines of this number of bits. Fewer right lines than the limit are followed by something else; lines count
+-- from 1. Or as many right lines as the limit are followed by more, whatever it is.
 pub data AreRefused (wires : ℕ) (text : List ℕ) (why : LinesFault) : Type 0 where
   WrongLine : (states : List (List Bool)) (rest : List ℕ) → text ≡ bit_lines states ++ rest → HaveWires wires states → length states < STATES_LIMIT
       → rest ≢ [] → HasNoLine wires rest → why ≡ fault.BitsLength (length states + 1) → AreRefused wires text why

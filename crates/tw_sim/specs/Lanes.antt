@@ -11,11 +11,11 @@ number_bit place n = (n / 2 ^ place % 2 == 1)
 abbrev pub lane : ℕ → List ℕ → List Bool
 lane place words = map (number_bit place) words
 
--- the first lanes of the words, so many, in order
+-- this number of lanes of the words, in order from the first
 abbrev pub lanes : ℕ → List ℕ → List (List Bool)
 lanes count words = map (λ place. lane place words) (range_with_len 0 count)
 
--- each lane of the words has become that of the gates done to it
+-- each lane of the words has become its image under the gates
 abbrev pub LanesActed : List PlainGate → List ℕ → List ℕ → Type 0
 LanesActed gates before now = (place : ℕ) → place < 64 → lane place now ≡ act gates (lane place before)
 

@@ -1,4 +1,4 @@
-//! Lines of bits answered by their images under gates.
+//! Lines of bits and their images under gates.
 ghost use Rattle.std.specs.Prelude.{◌≡◌, ◌≢◌, ◌⊎◌, ◌<◌, Bool, List, ◌++◌, length, map, Err, IfOk};
 ghost use Rattle.std.specs.List.{AllByRecursion};
 ghost use Rattle.tw_gate.specs.Gates.{HasWiresBelow, act};
@@ -12,8 +12,8 @@ use crate::transpose::{load, store};
 use std::alloc::{AllocError, Global};
 use tw_gate::GateList;
 
-/// Appends the answer to the first 64 of right lines, or to all if they are fewer, and gives the text after them. There is a
-/// word for each wire; what they held is lost.
+/// Appends the answer to the first 64 of right lines, or to all if they are fewer. Returns the text after them. There is a
+/// word for each wire. What the words held is lost.
 fn answer_block<'t>(
     gates: &GateList,
     text: &'t [u8],
@@ -54,7 +54,7 @@ fn answer_lines(
 /// Simulates the gates on each line of a text: line `i` of the answer is the image of line `i`. Each line has a bit for each
 /// wire, wire 0 first. All wires of the gates are below `wires`.
 ///
-/// The errors: the first line that is not so many bits; more lines than the limit; out of memory.
+/// The errors: the first line that does not have this number of bits; more lines than the limit; out of memory.
 pub fn simulate(
     alloc: Global,
     gates: &GateList,

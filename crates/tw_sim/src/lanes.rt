@@ -1,4 +1,4 @@
-//! Gates applied to words, one for each wire: to 64 states at once.
+//! Gates applied to words, one word for each wire: to 64 states at once.
 ghost use Rattle.std.specs.Prelude.{◌≡◌, ℕ, ◌<◌, List, length};
 ghost use Rattle.std.specs.List.{AllByRecursion};
 ghost use Rattle.tw_gate.specs.Gates.{PlainGate, plain, act_gate, all_one, HasWiresBelow};

@@ -1,5 +1,5 @@
 //! Gates simulated on lines of bits, 64 lines at a time: a machine word for each wire, with a bit for each line.
-//! `specs/` says what lines of bits are, how a text is refused that has others, and what a lane of words is.
+//! `specs/` defines lines of bits, the refusals of other texts, and the lanes of words.
 #![tactic(auto)]
 
 mod answer;

@@ -1,4 +1,4 @@
-//! Texts of bit lines: how many lines they have, or why they are refused.
+//! Texts of lines of bits: how many lines they have, or why they are refused.
 ghost use Rattle.std.specs.Prelude.{◌≡◌, ◌==◌, ◌||◌, ℕ, Bool, List, ◌++◌, length, Err, IfSome, IfOk, IfErr};
 ghost use Rattle.std.specs.List.{list_all};
 ghost use Rattle.std.specs.Option.{IfNone};
@@ -10,7 +10,7 @@ use tw_text::{Counted, Pos, Refusal, STATES_LIMIT};
 /// Why lines of bits are not simulated.
 #[derive(Debug, Clone, Copy, PartialEq, Eq, Error)]
 pub enum LinesFault {
-    /// This line, counted from 1, is the first that is not a character `0` or `1` for each wire, and a newline.
+    /// This line is the first that is not a character `0` or `1` for each wire, then a newline. Lines count from 1.
     #[error("a line of bits is wrong")]
     BitsLength { line: u32 },
     /// The number of lines passes its limit.
@@ -28,7 +28,7 @@ fn are_digits(bytes: &[u8]) -> bool
     bytes.iter().all(|byte| *byte == b'0' || *byte == b'1')
 }
 
-/// What follows a line of so many bits.
+/// The text after a line of this number of bits.
 fn behind_line(wires: usize, text: &[u8]) -> Option<&[u8]>
     ensures some { IfSome result (λ rest. (bits : List Bool) × (length bits ≡ wires) × (text.now ≡ bit_line bits ++ rest.now)) }
     ensures none { IfNone result (HasNoLine wires text.now) }
@@ -43,7 +43,7 @@ fn behind_line(wires: usize, text: &[u8]) -> Option<&[u8]>
     }
 }
 
-/// Checks that a text is lines of so many bits, whose number is within its limit.
+/// Checks that a text is lines of this number of bits, and that the number of lines is within its limit.
 pub fn check_lines(wires: usize, text: &[u8]) -> Result<(), LinesFault>
     ensures right { IfOk result (λ done. (states : List (List Bool)) × AreLinesOf wires text.now states) }
     ensures refused { IfErr result (λ why. AreRefused wires text.now why) }

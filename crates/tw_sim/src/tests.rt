@@ -1,3 +1,4 @@
+//! Concrete gates on concrete lines of bits, and the refusals of other texts.
 ghost use Rattle.std.specs.Prelude.{◌≡◌, [], ◌∷◌, ◌++◌, IfOk, OnOk};
 ghost use Rattle.std.specs.List.{AllByRecursion};
 ghost use Rattle.tw_gate.specs.Gates.{X, HasWiresBelow};
@@ -17,7 +18,7 @@ fn push_x(gates: &mut GateList, controls: &[u32], target: u32) -> Result<(), Lin
     }
 }
 
-/// Flips wire 4 exactly where wires 2 and 5 differ and wires 3 and 6 differ.
+/// Flips wire 4 exactly if wires 2 and 5 differ and wires 3 and 6 differ.
 fn example(alloc: Global) -> Result<GateList, LinesFault>
     ensures { IfOk result (AllByRecursion (HasWiresBelow 7)) }
 {
@@ -30,7 +31,7 @@ fn example(alloc: Global) -> Result<GateList, LinesFault>
     Ok(gates)
 }
 
-/// Four wires: flips wire 3 exactly where wires 0 to 2 are 1, and then wire 0.
+/// Four wires: flips wire 3 exactly if wires 0 to 2 are 1, and then flips wire 0.
 fn other_gates(alloc: Global) -> Result<GateList, LinesFault>
     ensures { IfOk result (AllByRecursion (HasWiresBelow 4)) }
 {
@@ -40,7 +41,7 @@ fn other_gates(alloc: Global) -> Result<GateList, LinesFault>
     Ok(gates)
 }
 
-/// A line so many times, followed by another text.
+/// This number of copies of a line, followed by another text.
 fn repeated(alloc: Global, line: &[u8], times: usize, end: &[u8]) -> Result<Vec<u8>, LinesFault> {
     let mut text = Vec::new(alloc);
     for _ in 0..times {

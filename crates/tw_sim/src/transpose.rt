@@ -1,11 +1,11 @@
-//! Lines of bits into lanes of words, and back: the bits of a line lie side by side, those of a lane in one word each.
+//! Lines of bits into lanes of words, and back. The bits of a line are adjacent; the bits of a lane are in one word each.
 ghost use Rattle.std.specs.Prelude.{◌≡◌, ◌≢◌, ◌==◌, ℕ, ◌<◌, ◌≤◌, Bool, false, List, ◌++◌, length, map, replicate, OnOk};
 ghost use Rattle.tw_sim.specs.BitLines.{bit_line, bit_lines, AreLinesOf};
 ghost use Rattle.tw_sim.specs.Lanes.{lane, lanes};
 
 use std::alloc::AllocError;
 
-/// How many lines are simulated at once.
+/// The number of lines that are simulated at once.
 const LANES: usize = 64;
 
 /// Sets a lane, which is 0, to the bits of a line.
@@ -35,7 +35,7 @@ fn load_line<'t>(place: usize, text: &'t [u8], words: &mut [u64]) -> &'t [u8]
     &text[wires + 1..]
 }
 
-/// Loads right lines into the lanes of the words, line `i` into lane `i`: all lines, or the first 64. Gives how many those are,
+/// Loads right lines into the lanes of the words, line `i` into lane `i`: all lines, or the first 64. Returns how many those are,
 /// and the text after them. What the words held is lost.
 pub fn load<'t>(text: &'t [u8], words: &mut [u64]) -> (usize, &'t [u8])
     requires { (states : List (List Bool)) × AreLinesOf (length words.old) text.now states }

@@ -7,17 +7,17 @@ use Rattle.tw_state.specs.States.{Cell, Free, Live, State, cell_at, Links, IsWel
 use Rattle.tw_state.specs.Renaming.{Permutation, renamed_cell, cell_renamed_to, renamed_cells, renamed}
 use Rattle.tw_state.proofs.Cells.{cell_at_within, cell_of, cell_at-range}
 
--- a function that takes no other number to 0 takes a block to a block
+-- a function whose inverse takes 0 to 0 takes a block to a block
 above_null : (to from : ℕ → ℕ) (block : ℕ) → from 0 ≡ 0 → from (to block) ≡ block → 0 < block → 0 < to block
 above_null to from block null back above =
     elim (eq-zero-or-pos (to block)) [ inl none ↦ let at : block ≡ 0 = sym back ∙ (ap from none ∙ null) in absurd (omega arith) | inr some ↦ some ]
 
--- what is free after the renaming was free
+-- a cell that is free after the renaming was free
 free_before : (to : ℕ → ℕ) (found : Option Cell) (cell : Cell) (next : ℕ) → found ≡ Some cell → renamed_cell to cell ≡ Free next → (old : ℕ) × (found ≡ Some (Free old))
 free_before to found (Free old) next is free = (old, is)
 free_before to found (Live target value) next is free = cc
 
--- the chain passes blocks alone
+-- the chain passes only blocks
 links_within : (cells : List Cell) (address : ℕ) (chain : List ℕ) → Links cells address chain → AllByRecursion (λ block. block ≤ length cells) chain
 links_within cells address [] links = tt
 links_within cells address (block ∷ chain) links =
@@ -28,11 +28,11 @@ abbrev pub counted : ℕ → ℕ → ℕ → ℕ
 counted block n passed = n + cond (passed == block) 1 0
 
 module _ {blocks : ℕ} (pi : Permutation blocks) where
-  -- two blocks of one new address are one
+  -- two blocks with one new address are equal
   one_block : (x y : ℕ) → x ≤ blocks → y ≤ blocks → pi.to x ≡ pi.to y → x ≡ y
   one_block x y hx hy same = sym (pi.from_to x hx) ∙ (ap pi.from same ∙ pi.from_to y hy)
 
-  -- the tests for one block before and after the renaming are the same
+  -- the tests for one block before and after the renaming are equal
   same_test : (x y : ℕ) → x ≤ blocks → y ≤ blocks → (pi.to x == pi.to y) ≡ (x == y)
   same_test x y hx hy =
       same_from_decides {P = x ≡ y} (pi.to x == pi.to y) (x == y)
@@ -63,7 +63,7 @@ module _ {blocks : ℕ} (pi : Permutation blocks) where
     links_renamed address (block ∷ chain) links =
         (ap pi.to links.0, (pi.to links.1.0, cell_at-renamed block (Free links.1.0) links.1.1, links_renamed links.1.0 chain links.1.2))
 
-    -- a free cell after the renaming was one at the block's old address
+    -- a cell that is free after the renaming was free at the block's old address
     free_from : (block next : ℕ) → cell_at (renamed_cells pi cells) block ≡ Some (Free next) → (block ≤ blocks) × ((old : ℕ) × (cell_at cells (pi.from block) ≡ Some (Free old)))
     free_from block next at =
         let within = cell_at_within (renamed_cells pi cells) block (Free next) at in

@@ -19,7 +19,7 @@ use Rattle.tw_state.proofs.Cells.{cell_at_within}
 use Rattle.tw_state.proofs.Chain.{counted}
 use Rattle.tw_state.proofs.Sizes.{length-cell_bits, length-variable_bits}
 
--- four parts in a row
+-- four parts, one after the other
 four_parts : (head cells variables zeros : List Bool) → ((head ++ cells) ++ variables) ++ zeros ≡ head ++ (cells ++ (variables ++ zeros))
 four_parts head cells variables zeros =
     append_assoc (head ++ cells) variables zeros ∙ append_assoc head cells (variables ++ zeros)
@@ -106,7 +106,7 @@ module _ (widths : Widths) (targets : List Target) where
             (there.1.0, subst (λ b. cell_at others b ≡ Some (Free there.1.0)) (sym here ∙ tests.0 refl) there.1.1)
         by false tests here deeper some = deeper (omega (arith, some))
 
-  -- cells with the same bits agree, where the same of them are free
+  -- cells with the same bits agree, if the same ones are free
   cells_agree : (cells others : List Cell) → SameBits cells others → AllByRecursion (IsCell widths targets) cells → AllByRecursion (IsCell widths targets) others → ((i next : ℕ) → slice_get cells i ≡ Some (Free next) → (other : ℕ) × (slice_get others i ≡ Some (Free other))) → ((i next : ℕ) → slice_get others i ≡ Some (Free next) → (other : ℕ) × (slice_get cells i ≡ Some (Free other))) → CellsAgree cells others
   unfolding SameBits
   cells_agree [] [] same all also to from = tt
@@ -136,7 +136,7 @@ module _ (widths : Widths) (targets : List Target) where
       (all.0.1 ∙ (ap Some one ∙ sym also.0.1), variables_same store other variables more less all.1 also.1 parts.1)
 
   module _ (variables : List Variable) (state other : State) (formed : IsWellFormed state) (other_formed : IsWellFormed other) (typed : IsTyped widths targets variables state) (other_typed : IsTyped widths targets variables other) where
-    -- what is free in one state is free in the other
+    -- a cell that is free in one state is free in the other
     free_in_other : state.head ≡ other.head → SameBits state.cells other.cells → (i next : ℕ) → slice_get state.cells i ≡ Some (Free next) → (link : ℕ) × (slice_get other.cells i ≡ Some (Free link))
     free_in_other head same i next at =
         let once = formed.once (suc i) next at in

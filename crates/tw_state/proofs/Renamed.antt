@@ -18,7 +18,7 @@ operator_value-renamed : (widths : Widths) (to : ℕ → ℕ) (operator : Operat
 operator_value-renamed widths to And (Truth left) (Truth right) value evaluates = ap (option_map (renamed_value to)) evaluates
 operator_value-renamed widths to operator left right value evaluates = cc
 
--- and so it is where both operands have a value
+-- the same, if both operands have a value
 both_values-renamed : (widths : Widths) (to : ℕ → ℕ) (operator : Operator) (left right : Option Value) (value : Value) → both_values widths operator left right ≡ Some value → both_values widths operator (option_map (renamed_value to) left) (option_map (renamed_value to) right) ≡ Some (renamed_value to value)
 both_values-renamed widths to operator (Some left) (Some right) value evaluates = operator_value-renamed widths to operator left right value evaluates
 both_values-renamed widths to operator (Some left) None value evaluates = cc
@@ -61,7 +61,7 @@ module _ (widths : Widths) (pi : Permutation (block_count widths)) where
       (value_typed-renamed x first typed.0, value_typed-renamed y second typed.1)
   value_typed-renamed value ty typed = absurd typed
 
-  -- a renamed cell is one of the program
+  -- a renamed cell is a cell of the program
   cell_typed-renamed : (targets : List Target) (cell : Cell) → IsCell widths targets cell → IsCell widths targets (renamed_cell pi.to cell)
   cell_typed-renamed targets (Free next) is = pi.to_within next is
   cell_typed-renamed targets (Live target value) is = (is.0, is.1, value_typed-renamed value is.0 is.2)

@@ -1,4 +1,4 @@
--- How many bits the memory and the variables of a typed state have.
+-- The number of bits of the memory and the variables of a typed state.
 use Rattle.std.proofs.Common.{◌≡◌, ℕ, zero, suc, ◌+◌, ◌*◌, ◌≤◌, List, [], ◌∷◌, length, flat_map, Some, arith, length-append, suc-mul}
 use Rattle.std.specs.List.{AllByRecursion}
 use Rattle.tw_types.specs.Types.{Widths, Ty, Target, size, block_count, block_size}
@@ -40,6 +40,6 @@ pub length-memory_bits : {widths : Widths} {targets : List Target} {variables : 
 length-memory_bits {widths} {targets} {state = state} typed =
     rw (length-append, length-number_bits widths.addr state.head, length-cells_bits widths targets state.cells typed.each_cell, typed.all_blocks)
 
--- a variable that a store has, has as many bits as its type
+-- a variable that a store has fills as many bits as its type
 pub length-variable_bits : (widths : Widths) (store : Store) (variable : Variable) → HasVariable widths store variable → length (variable_bits widths store variable) ≡ size widths variable.ty
 length-variable_bits widths store variable has = rw has.1 (length-value_bits widths has.0 variable.ty has.2)

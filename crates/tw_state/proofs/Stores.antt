@@ -19,7 +19,7 @@ bytes_eq-different x y apart = by (bytes_eq x y) (bytes_eq-Decides x y).0 where
 pub bytes_eq-same : (x : Name) → bytes_eq x x ≡ true
 bytes_eq-same x = (bytes_eq-Decides x x).1 refl
 
--- another name has the value that it had
+-- another name keeps its value
 pub with_value-other : (store : Store) (name : Name) (value : Value) (other : Name) → name ≢ other → with_value store name value other ≡ store other
 with_value-other store name value other apart = rw (bytes_eq-different name other apart)
 
@@ -27,7 +27,7 @@ with_value-other store name value other apart = rw (bytes_eq-different name othe
 pub variable_bits-given : (widths : Widths) (store : Store) (variable : Variable) (value : Value) → variable_bits widths (with_value store variable.name value) variable ≡ value_bits widths value
 variable_bits-given widths store variable value = rw (bytes_eq-same variable.name)
 
--- the bits of variables of other names stay
+-- the bits of variables of other names are unchanged
 pub flat_map-with_value : (widths : Widths) (store : Store) (name : Name) (value : Value) (variables : List Variable) → AllByRecursion (λ variable. variable.name ≢ name) variables → flat_map (variable_bits widths (with_value store name value)) variables ≡ flat_map (variable_bits widths store) variables
 flat_map-with_value widths store name value [] fresh = refl
 flat_map-with_value widths store name value (variable ∷ variables) fresh =

@@ -1,4 +1,4 @@
--- Worked examples that take more than computing: a well-formed state, the result of a function, and renamed blocks.
+-- Worked examples that need more than evaluation: a well-formed state, the result of a function, and renamed blocks.
 use Rattle.std.proofs.Common.{◌≡◌, ℕ, zero, suc, ◌≤◌, ◌==◌, true, List, [], ◌∷◌, count_by, Some, refl, arith, codes}
 use Rattle.tw_types.specs.Values.{Number, Truth, Address, PairValue}
 use Rattle.tw_state.specs.States.{Free, Live, Links, IsWellFormed, cell_at, empty}
@@ -24,14 +24,14 @@ lost_cell_is_not_well_formed formed = lost formed.chain formed.links (formed.onc
   lost (zero ∷ chain) links once = cc links.1.1
   lost (suc i ∷ chain) links once = absurd (omega (arith, links.0))
 
--- the parameters and nothing else
+-- the parameters and no other name
 start_holds : Holds one_bit main.parameters (operands true true)
 start_holds = record {
   each = ((Truth true, refl, tt), ((Truth true, refl, tt), tt));
   no_other = λ name apart. rw (bytes_eq-different (codes "b") name apart.1.0, bytes_eq-different (codes "a") name apart.0);
 }
 
--- the function takes `a true; b true` to `c true` beside them
+-- the function takes `a true; b true` to the same with `c true`
 pub main_has_result : HasResult one_bit [] main start end
 main_has_result = record {
   well_formed = start_is_well_formed;
@@ -62,7 +62,7 @@ turn_back (suc (suc zero)) = 3
 turn_back (suc (suc (suc zero))) = 1
 turn_back block = block
 
--- three blocks, turned
+-- three blocks, rotated
 pub turned : Permutation 3
 turned = record {
   to = turn;

@@ -1,4 +1,4 @@
--- The bits of a state, and what they determine.
+-- The encoding of states in bits, and what the bits determine.
 use Rattle.std.specs.Prelude.{◌≡◌, ℕ, Bool, true, false, List, [], ◌∷◌, ◌++◌, unwrap_or, option_map, codes, refl}
 use Rattle.std.specs.List.{flat_map}
 use Rattle.tw_bits.specs.Numbers.{number_bits}
@@ -18,11 +18,11 @@ cell_bits widths targets (Live target value) = padded (block_size widths targets
 abbrev pub memory_bits : Widths → List Target → State → List Bool
 memory_bits widths targets state = number_bits widths.addr state.head ++ flat_map (cell_bits widths targets) state.cells
 
--- the bits of a variable; none where it has no value
+-- the bits of a variable; none if it has no value
 abbrev pub variable_bits : Widths → Store → Variable → List Bool
 variable_bits widths store variable = unwrap_or (option_map (value_bits widths) (store variable.name)) []
 
--- a state on so many wires: its memory, these variables, and zeros on all other wires
+-- a state on this number of wires: its memory, these variables, and zeros on all other wires
 abbrev pub encoded : ℕ → Widths → List Target → List Variable → State → List Bool
 encoded wires widths targets variables state =
     padded wires (memory_bits widths targets state ++ flat_map (variable_bits widths state.store) variables)
@@ -35,7 +35,7 @@ encoded_at_start wires widths targets function = encoded wires widths targets fu
 abbrev pub encoded_at_end : ℕ → Widths → List Target → Function → State → List Bool
 encoded_at_end wires widths targets function = encoded wires widths targets (variables_at_end function)
 
--- two cells are both free with one link, or both live, where cells of one target have one value
+-- two cells are both free with one link, or both live, with one value if they have one target
 abbrev pub CellsAgree : List Cell → List Cell → Type 0
 CellsAgree [] [] = Unit {0}
 CellsAgree (Free next ∷ cells) (Free other ∷ others) = (next ≡ other) × CellsAgree cells others

@@ -1,4 +1,4 @@
--- Worked examples of states, their meaning and their encoding.
+-- Worked examples of states, their semantics and their encoding.
 use Rattle.std.specs.Prelude.{◌≡◌, Bool, true, false, List, [], ◌∷◌, Some, None, codes, refl}
 use Rattle.tw_types.specs.Types.{Widths, Boolean}
 use Rattle.tw_types.specs.Values.{Truth}

@@ -1,4 +1,4 @@
--- The function that a syntax tree denotes; none where the tree has a node without semantics here yet.
+-- The function that a syntax tree denotes; none if the tree has a node without semantics here yet.
 use Rattle.std.specs.Prelude.{◌≡◌, ℕ, true, false, List, [], ◌∷◌, Option, Some, None, option_map, codes, refl}
 use Rattle.tw_text.specs.declared.place.Pos.{Pos}
 use Rattle.tw_syntax.specs.declared.term.OpKind.{OpKind}
@@ -32,7 +32,7 @@ abbrev pub operator_meant : OpKind → Option Operator
 operator_meant op.And = Some And
 operator_meant other = None
 
--- an operator on two operands, where all three denote something
+-- an operator on two operands, if all three denote something
 abbrev pub binary_of : Option Operator → Option Atom → Option Atom → Option Expr
 binary_of (Some operator) (Some left) (Some right) = Some (Binary operator left right)
 binary_of operator left right = None
@@ -45,7 +45,7 @@ abbrev pub rhs_meant : RhsTree → Option Expr
 rhs_meant (ExprRhs expr) = expr_meant expr
 rhs_meant other = None
 
--- a statement and the statements after it, where both denote something
+-- a statement and the statements after it, if both denote something
 abbrev pub then_of : Option Stmt → Option Stmt → Option Stmt
 then_of (Some first) (Some rest) = Some (Then first rest)
 then_of first rest = None
@@ -61,7 +61,7 @@ stmt_meant other = None
 abbrev pub variable_meant : NameTree → WrittenTree → Option Variable
 variable_meant name ty = option_map (λ t. record { name = name.text; ty = t }) (type_meant ty)
 
--- a variable and the variables after it, where all denote something
+-- a variable and the variables after it, if all denote something
 abbrev pub more_of : Option Variable → Option (List Variable) → Option (List Variable)
 more_of (Some variable) (Some variables) = Some (variable ∷ variables)
 more_of variable variables = None
@@ -70,7 +70,7 @@ abbrev pub variables_meant : List ParamTree → Option (List Variable)
 variables_meant [] = Some []
 variables_meant (param ∷ params) = more_of (variable_meant param.name param.ty) (variables_meant params)
 
--- the parts of a function, where all denote something
+-- the parts of a function, if all denote something
 abbrev pub whole_of : Option (List Variable) → Option Variable → Option Stmt → Option Function
 whole_of (Some parameters) (Some result) (Some body) = Some (record { parameters = parameters; result = result; body = body })
 whole_of parameters result body = None

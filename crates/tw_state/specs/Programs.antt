@@ -15,7 +15,7 @@ pub data Operator : Type 0 where
 pub data Expr : Type 0 where
   Binary : (operator : Operator) (left right : Atom) → Expr
 
--- a statement; a sequence is nothing, or a statement and the sequence after it
+-- a statement; a sequence is empty, or a statement and the sequence after it
 pub data Stmt : Type 0 where
   Skip : Stmt
   Then : (first rest : Stmt) → Stmt

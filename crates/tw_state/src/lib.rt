@@ -1,3 +1,3 @@
 //! States of a program's memory and variables.
-//! The definitions of `specs/` say what a state is, what statements do to it, how its blocks are renamed and which bits encode it.
+//! The definitions of `specs/` give the states, the semantics of statements, the renaming of blocks, and the encoding in bits.
 #![tactic(auto)]

@@ -1,4 +1,4 @@
--- The tests of statements, functions and programs decide whether they are the same without places.
+-- The tests of statements, functions and programs decide equality without places.
 use Rattle.std.proofs.Common.{◌≡◌, refl, ap, Decides, map}
 use Rattle.std.specs.Option.{option_map}
 use Rattle.std.specs.Cmp.{booleans_Decides}
@@ -32,7 +32,7 @@ param_decides x y = two (name_decides x.name y.name) (written_decides x.ty y.ty)
 alias_decides : (x y : AliasTree) → Decides (same_alias x y) (unplaced_alias x ≡ unplaced_alias y)
 alias_decides x y = two (name_decides x.name y.name) (written_decides x.body y.body) (λ e f. cc) (ap (λ z. z.name)) (ap (λ z. z.body))
 
--- the heads of two functions without places are the same
+-- the heads of two functions are equal without places
 record SameHead (x y : FunTree) : Type 0 where
   pub name : unplaced_name x.name ≡ unplaced_name y.name
   pub bound : option_map unplaced_name x.bound ≡ option_map unplaced_name y.bound

@@ -1,4 +1,4 @@
--- The tests of atoms, expressions and right sides decide whether they are the same without places.
+-- The tests of atoms, expressions and right sides decide equality without places.
 use Rattle.std.proofs.Common.{◌≡◌, refl, Decides, eqb}
 use Rattle.std.proofs.lemmas.Bool.Decides.{Decides-eqb}
 use Rattle.tw_syntax.specs.declared.term.OpKind.{OpKind}

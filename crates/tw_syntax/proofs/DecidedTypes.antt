@@ -1,4 +1,4 @@
--- The tests of names, paths and types decide whether they are the same without places.
+-- The tests of names, paths and types decide equality without places.
 use Rattle.std.proofs.Common.{◌≡◌, refl, ap, Decides}
 use Rattle.std.proofs.lemmas.Slice.Eq.{bytes_eq-Decides}
 use Rattle.tw_syntax.specs.Names.{NameTree, PathTree}

@@ -1,4 +1,4 @@
--- Tests that decide whether trees of one form are the same without places.
+-- Tests that decide whether syntax trees of one form are equal without places.
 use Rattle.std.proofs.Common.{◌≡◌, refl, Bool, true, false, ◌&&◌, List, [], ◌∷◌, Option, Some, None, map, Decides}
 use Rattle.std.specs.Option.{option_map}
 use Rattle.std.proofs.Math.Bool.{false≢true}
@@ -20,11 +20,11 @@ two p q made first second = one (both p q) (λ h. made (h.0) (h.1)) (λ r. (firs
 pub three : {P Q S R : Type 0} {a b c : Bool} → Decides a P → Decides b Q → Decides c S → (P → Q → S → R) → (R → P) → (R → Q) → (R → S) → Decides ((a && b) && c) R
 three p q s made first second third = two (both p q) s (λ h. made (h.0) (h.1)) (λ r. (first r, second r)) third
 
--- a test that always holds, of what is always so
+-- a test that always holds decides what always holds
 pub always : {R : Type 0} → R → Decides true R
 always r = (λ h. r, λ h. refl)
 
--- a test that never holds, of what is never so
+-- a test that never holds decides what never holds
 pub never : {R : Type 0} → (R → false ≡ true) → Decides false R
 never f = (λ h. absurd (false≢true h), f)
 

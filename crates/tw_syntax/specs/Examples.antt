@@ -1,10 +1,10 @@
--- What worked examples are made of.
+-- Parts of worked examples.
 use denote.Bor.{Bor}
 use Rattle.std.specs.Prelude.{ℕ, List}
 use Rattle.tw_text.specs.declared.place.Pos.{Pos}
 use Rattle.tw_syntax.specs.declared.name.Name.{Name}
 
--- a value that lies somewhere in the arena
+-- a value at some address of the arena
 abbrev pub lent : {A : Type 0} → A → Bor A
 lent x = record { ref_ptr = (0, 0); now = x }
 

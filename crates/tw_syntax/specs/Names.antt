@@ -10,7 +10,7 @@ pub record NameTree : Type 0 where
   pub text : List ℕ
   pub at : Pos
 
--- a name and the steps, 1 or 2, from its value to a part
+-- a name, and the steps, 1 or 2, from its value to a part
 pub record PathTree : Type 0 where
   pub root : NameTree
   pub steps : List ℕ

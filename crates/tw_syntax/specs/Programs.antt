@@ -29,7 +29,7 @@ pub record FunTree : Type 0 where
   pub return_at : Pos
   pub returned : NameTree
 
--- a name for a type
+-- an alias: a name for a type
 pub record AliasTree : Type 0 where
   pub name : NameTree
   pub body : WrittenTree

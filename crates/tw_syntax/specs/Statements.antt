@@ -9,7 +9,7 @@ use Rattle.tw_syntax.specs.Examples.{place}
 use Rattle.tw_syntax.specs.Names.{NameTree, PathTree, name_tree, path_tree}
 use Rattle.tw_syntax.specs.Terms.{RhsTree, rhs_tree}
 
--- a statement and its place, a list of statements (nothing, or one and then the rest), or an `else`
+-- a statement and its place, a list of statements (empty, or one and then the rest), or an `else`
 pub data StmtTree : Type 0 where
   Nothing : StmtTree
   Then : (first rest : StmtTree) → StmtTree
@@ -56,7 +56,7 @@ abbrev pub stmts_tree : List Stmt → StmtTree
 stmts_tree [] = Nothing
 stmts_tree (x ∷ xs) = Then (stmt_tree x) (stmts_tree xs)
 
--- the tree of an `else`; nothing where there is none
+-- the tree of an `else`; empty if there is none
 abbrev pub else_tree : Option No → StmtTree
 else_tree None = Nothing
 else_tree (Some other) = no_tree other

@@ -40,7 +40,7 @@ pub data BoundTree : Type 0 where
   SameBound : (name : NameTree) → BoundTree
   LessBound : (name : NameTree) (number : ℕ) → BoundTree
 
--- what stands at the right of a `let`
+-- the right side of a `let`
 pub data RhsTree : Type 0 where
   ExprRhs : (expr : ExprTree) → RhsTree
   CallRhs : (callee : NameTree) (bound : Option BoundTree) (args : List NameTree) → RhsTree

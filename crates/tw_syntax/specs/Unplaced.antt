@@ -9,7 +9,7 @@ use Rattle.tw_syntax.specs.Statements.{StmtTree, Nothing, Then, Else, LetStmt, S
 use Rattle.tw_syntax.specs.Terms.{AtomTree, PlaceAtom, NumberAtom, TrueAtom, FalseAtom, UnitAtom, NullAtom, ZeroAtom, ExprTree, OneExpr, TwoExpr, NotExpr, OpExpr, BoundTree, FixedBound, SameBound, LessBound, RhsTree, ExprRhs, CallRhs, AllocRhs}
 use Rattle.tw_syntax.specs.Types.{WrittenTree, UnitType, UintType, BoolType, PairType, PtrType, NamedType}
 
--- the place that stands for every place; no text has it
+-- the place that replaces every place; no text has it
 abbrev pub no_place : Pos
 no_place = record { line = 0; col = 0 }
 
@@ -101,7 +101,7 @@ unplaced_decl (FunDecl x) = FunDecl (unplaced_fun x)
 abbrev pub unplaced_program : ProgramTree → ProgramTree
 unplaced_program x = record { decls = map unplaced_decl x.decls }
 
--- the function `fun f(x: uint) -> uint { let y <- x; return y; }` that begins in this line, its statements in the next two
+-- the function `fun f(x: uint) -> uint { let y <- x; return y; }` that begins in this line; its statements are in the next two
 abbrev small : ℕ → FunTree
 small line = record {
   name = record { text = codes "f"; at = place line 5 };

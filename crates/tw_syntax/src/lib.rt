@@ -1,5 +1,5 @@
-//! Syntax trees, which lie in an arena, and when two of them are the same but for their places.
-//! The definitions of `specs/` lead to trees without pointers, in which places are kept.
+//! Syntax trees in an arena, and whether two of them are equal but for their places.
+//! The definitions of `specs/` take them to trees without pointers, which keep the places.
 #![tactic(auto)]
 
 mod name;

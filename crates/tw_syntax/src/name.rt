@@ -1,3 +1,4 @@
+//! Names and paths.
 use tw_text::Pos;
 
 /// A name and its place.
@@ -7,7 +8,7 @@ pub struct Name<'a> {
     pub at: Pos,
 }
 
-/// A name and the steps from its value to a part: 1 for the first half of a pair, 2 for the second.
+/// A path: a name, and the steps from its value to a part. A step is 1 for the first half of a pair, 2 for the second.
 #[derive(Clone, Copy)]
 pub struct Path<'a> {
     pub root: Name<'a>,

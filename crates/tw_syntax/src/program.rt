@@ -1,3 +1,4 @@
+//! Functions, aliases and programs.
 ghost use Rattle.std.specs.Prelude.{◌≡◌, IfOk, map};
 ghost use Rattle.tw_syntax.specs.Programs.{program_tree, decl_tree};
 
@@ -18,17 +19,17 @@ pub struct Param<'a> {
 #[derive(Clone, Copy)]
 pub struct Fun<'a> {
     pub name: Name<'a>,
-    /// The name of its bound, where it has one.
+    /// The name of its bound, if it has one.
     pub bound: Option<Name<'a>>,
     pub params: &'a [Param<'a>],
     pub result: &'a Written<'a>,
     pub body: &'a [Stmt<'a>],
-    /// The place of the word `return`.
+    /// The place of the keyword `return`.
     pub return_at: Pos,
     pub returned: Name<'a>,
 }
 
-/// A name for a type.
+/// An alias: a name for a type.
 #[derive(Clone, Copy)]
 pub struct Alias<'a> {
     pub name: Name<'a>,
@@ -42,13 +43,13 @@ pub enum Decl<'a> {
     Fun(Fun<'a>),
 }
 
-/// A program: its declarations, in their order.
+/// A program: its declarations, in order.
 #[derive(Clone, Copy)]
 pub struct Program<'a> {
     pub decls: &'a [Decl<'a>],
 }
 
-/// A program in the arena. An error: the arena has no memory for it.
+/// A program in the arena. An error: the arena is out of memory.
 pub fn build_program<'a>(
     arena: &'a Arena,
     decls: &'a [Decl<'a>],

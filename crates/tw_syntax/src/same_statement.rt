@@ -1,3 +1,4 @@
+//! Tests whether statements are equal but for their places.
 ghost use Rattle.std.specs.Prelude.{◌≡◌};
 ghost use Rattle.tw_syntax.specs.Statements.{stmt_tree, stmts_tree, else_tree};
 ghost use Rattle.tw_syntax.specs.Same.{same_stmt};
@@ -5,7 +6,7 @@ ghost use Rattle.tw_syntax.specs.Same.{same_stmt};
 use crate::same_term::{same_name, same_path, same_rhs};
 use crate::statement::{No, Stmt, StmtKind};
 
-/// Whether two lists of statements are the same but for their places.
+/// Whether two lists of statements are equal but for their places.
 #[cycle(same_stmt)]
 #[tactic(auto, using(crate::proofs::Unequal::chains))]
 pub fn same_stmts(x: &[Stmt], y: &[Stmt]) -> bool
@@ -22,7 +23,7 @@ pub fn same_stmts(x: &[Stmt], y: &[Stmt]) -> bool
     true
 }
 
-/// Whether two `else`s, or their absence, are the same but for their places.
+/// Whether two `else`s, or their absence, are equal but for their places.
 #[cycle(same_stmt)]
 fn same_else(x: &Option<No>, y: &Option<No>) -> bool
     ensures { result ≡ same_stmt (else_tree x.now) (else_tree y.now) }
@@ -39,7 +40,7 @@ fn same_else(x: &Option<No>, y: &Option<No>) -> bool
     }
 }
 
-/// Whether two statements are the same but for their places.
+/// Whether two statements are equal but for their places.
 #[cycle(same_stmt)]
 fn same_stmt(x: &Stmt, y: &Stmt) -> bool
     ensures { result ≡ same_stmt (stmt_tree x.now) (stmt_tree y.now) }

@@ -1,3 +1,4 @@
+//! Tests whether atoms, expressions and right sides are equal but for their places.
 ghost use Rattle.std.specs.Prelude.{◌≡◌, map, eqb};
 ghost use Rattle.std.specs.Option.{option_map};
 ghost use Rattle.tw_syntax.specs.Names.{name_tree, path_tree};
@@ -8,28 +9,28 @@ use crate::name::{Name, Path};
 use crate::same_written::same_written;
 use crate::term::{Atom, AtomKind, Bound, Expr, ExprKind, OpKind, Rhs};
 
-/// Whether two names are the same but for their places.
+/// Whether two names are equal but for their places.
 pub fn same_name(x: &Name, y: &Name) -> bool
     ensures { result ≡ same_name (name_tree x.now) (name_tree y.now) }
 {
     x.text == y.text
 }
 
-/// Whether two paths are the same but for their places.
+/// Whether two paths are equal but for their places.
 pub fn same_path(x: &Path, y: &Path) -> bool
     ensures { result ≡ same_path (path_tree x.now) (path_tree y.now) }
 {
     same_name(&x.root, &y.root) && x.steps == y.steps
 }
 
-/// Whether two operators are the same.
+/// Whether two operators are equal.
 fn same_op(x: OpKind, y: OpKind) -> bool
     ensures { result ≡ eqb (op_number x) (op_number y) }
 {
     x as u8 == y as u8
 }
 
-/// Whether two atoms are the same but for their places.
+/// Whether two atoms are equal but for their places.
 fn same_atom(x: &Atom, y: &Atom) -> bool
     ensures { result ≡ same_atom (atom_tree x.now) (atom_tree y.now) }
 {
@@ -65,7 +66,7 @@ fn same_atom(x: &Atom, y: &Atom) -> bool
     }
 }
 
-/// Whether two expressions are the same but for their places.
+/// Whether two expressions are equal but for their places.
 fn same_expr(x: &Expr, y: &Expr) -> bool
     ensures { result ≡ same_expr (expr_tree x.now) (expr_tree y.now) }
 {
@@ -89,7 +90,7 @@ fn same_expr(x: &Expr, y: &Expr) -> bool
     }
 }
 
-/// Whether two bounds are the same but for their places.
+/// Whether two bounds are equal but for their places.
 fn same_bound(x: &Bound, y: &Bound) -> bool
     ensures { result ≡ same_bound (bound_tree x.now) (bound_tree y.now) }
 {
@@ -109,7 +110,7 @@ fn same_bound(x: &Bound, y: &Bound) -> bool
     }
 }
 
-/// Whether two bounds, or their absence, are the same but for their places.
+/// Whether two bounds, or their absence, are equal but for their places.
 fn same_bounds(x: &Option<Bound>, y: &Option<Bound>) -> bool
     ensures { result ≡ same_optional same_bound (option_map bound_tree x.now) (option_map bound_tree y.now) }
 {
@@ -122,7 +123,7 @@ fn same_bounds(x: &Option<Bound>, y: &Option<Bound>) -> bool
     }
 }
 
-/// Whether two lists of names are the same but for their places.
+/// Whether two lists of names are equal but for their places.
 #[tactic(auto, using(crate::proofs::Lists::lengths))]
 fn same_names(x: &[Name], y: &[Name]) -> bool
     ensures { result ≡ same_each same_name (map name_tree x.now) (map name_tree y.now) }
@@ -138,7 +139,7 @@ fn same_names(x: &[Name], y: &[Name]) -> bool
     true
 }
 
-/// Whether two right sides are the same but for their places.
+/// Whether two right sides are equal but for their places.
 pub fn same_rhs(x: &Rhs, y: &Rhs) -> bool
     ensures { result ≡ same_rhs (rhs_tree x.now) (rhs_tree y.now) }
 {

@@ -1,10 +1,11 @@
+//! The test whether written types are equal but for their places.
 ghost use Rattle.std.specs.Prelude.{◌≡◌};
 ghost use Rattle.tw_syntax.specs.Types.{written_tree};
 ghost use Rattle.tw_syntax.specs.Same.{same_written};
 
 use crate::written::{Written, WrittenKind};
 
-/// Whether two written types are the same but for their places.
+/// Whether two written types are equal but for their places.
 pub fn same_written(x: &Written, y: &Written) -> bool
     ensures { result ≡ same_written (written_tree x.now) (written_tree y.now) }
 {

@@ -1,3 +1,4 @@
+//! Statements.
 ghost use Rattle.std.specs.Prelude.{◌≡◌, Some};
 ghost use Rattle.tw_syntax.specs.Statements.{stmt_tree, stmts_tree, else_tree, Else, IfStmt, WithStmt, BlockStmt};
 ghost use Rattle.tw_syntax.specs.Names.{path_tree};
@@ -18,7 +19,7 @@ pub struct Stmt<'a> {
 #[derive(Clone, Copy)]
 #[cycle(statement)]
 pub enum StmtKind<'a> {
-    /// `forward` says whether the target gets its value here, or gives it back.
+    /// `forward` is true for an assignment, and false for an un-assignment.
     Let {
         forward: bool,
         target: Name<'a>,
@@ -40,7 +41,7 @@ pub enum StmtKind<'a> {
     Skip,
 }
 
-/// An `else`, and the place of this word.
+/// An `else`, and the place of this keyword.
 #[derive(Clone, Copy)]
 #[cycle(statement)]
 pub struct No<'a> {
@@ -48,7 +49,7 @@ pub struct No<'a> {
     pub stmts: &'a [Stmt<'a>],
 }
 
-/// The block of these statements, in their order.
+/// The block of these statements, in order.
 pub fn block<'a>(at: Pos, body: &'a [Stmt<'a>]) -> Stmt<'a>
     ensures { stmt_tree result ≡ BlockStmt at (stmts_tree body.now) }
 {
@@ -75,7 +76,7 @@ pub fn otherwise<'a>(at: Pos, stmts: &'a [Stmt<'a>]) -> No<'a>
     No { at, stmts }
 }
 
-/// Work that stands between a setup and its undoing.
+/// A setup, the work after it, and the setup undone.
 pub fn with_block<'a>(at: Pos, setup: &'a [Stmt<'a>], work: &'a [Stmt<'a>]) -> Stmt<'a>
     ensures { stmt_tree result ≡ WithStmt at (stmts_tree setup.now) (stmts_tree work.now) }
 {

@@ -1,8 +1,9 @@
+//! Atoms, expressions and right sides.
 use crate::name::{Name, Path};
 use crate::written::Written;
 use tw_text::Pos;
 
-/// An expression without parts that are computed, and its place.
+/// An atom, an expression without computed parts, and its place.
 #[derive(Clone, Copy)]
 pub struct Atom<'a> {
     pub at: Pos,
@@ -58,11 +59,11 @@ pub enum OpKind {
 pub enum Bound<'a> {
     Fixed(u8),
     Same(Name<'a>),
-    /// The bound of this name less a number.
+    /// The bound of this name minus a number.
     Less(Name<'a>, u8),
 }
 
-/// What stands at the right of a `let`.
+/// The right side of a `let`.
 #[derive(Clone, Copy)]
 pub enum Rhs<'a> {
     Expr(Expr<'a>),

@@ -1,3 +1,4 @@
+//! The comparison of programs that differ in one part or in places alone.
 use crate::{
     Alias, Bound, Decl, Fun, Name, Param, Path, Program, Rhs, Stmt, StmtKind, WrittenKind, block,
     build_program, build_written, choice, otherwise, same_tree, with_block,
@@ -7,7 +8,7 @@ use std::alloc::AllocError;
 use std::test::Fail;
 use tw_text::{Arena, Pos};
 
-/// What the programs of these tests differ in.
+/// The parts in which the programs of these tests differ.
 #[derive(Clone, Copy)]
 struct Sample<'a> {
     at: Pos,

@@ -1,10 +1,11 @@
+//! Types as a program writes them.
 ghost use Rattle.std.specs.Prelude.{◌≡◌, IfOk};
 ghost use Rattle.tw_syntax.specs.Types.{written_tree, written_kind_tree};
 
 use std::alloc::AllocError;
 use tw_text::{Arena, Pos};
 
-/// A type as it is written, and the place of its first token.
+/// A written type, and the place of its first token.
 #[derive(Clone, Copy)]
 #[cycle(written)]
 pub struct Written<'a> {
@@ -25,7 +26,7 @@ pub enum WrittenKind<'a> {
     Named(&'a str),
 }
 
-/// A written type in the arena. An error: the arena has no memory for it.
+/// A written type in the arena. An error: the arena is out of memory.
 pub fn build_written<'a>(
     arena: &'a Arena,
     at: Pos,

@@ -17,11 +17,11 @@ begins text rest c utf8 e = record {
 front_length : (text rest : List ℕ) (ends : EndsWith text rest) → length text - length rest ≡ length ends.front
 front_length text rest ends = omega (arith, ap length ends.parts, length-append ends.front rest)
 
--- the text may be cut before what it ends with
+-- a text has a character boundary before its suffix
 pub boundary : (text rest : List ℕ) → EndsWith text rest → IsUtf8 rest → IsCharBoundary text (length text - length rest)
 boundary text rest ends utf8 = rw (front_length text rest ends) (IsCharBoundary-at_seam text ends.front rest ends.parts utf8)
 
--- and its characters are those of both parts
+-- the characters of a text are those of its prefix, then those of its suffix
 pub spelled_apart : (text rest front : List ℕ) → EndsWith text rest → IsUtf8 text → IsUtf8 rest → front ≡ take (length text - length rest) text → chars text ≡ chars front ++ chars rest
 spelled_apart text rest front ends utf8 utf8' is =
     let at = IsUtf8-take text (length text - length rest) utf8 (boundary text rest ends utf8') in
@@ -37,7 +37,7 @@ pub no_front : (text front : List ℕ) → IsUtf8 text → IsUtf8 front → Lack
 no_front text front utf8 utf8' lacks mid e =
     lacks (encode_utf8_all mid) (sym (encodes-chars text utf8) ∙ ap encode_utf8_all e ∙ encodes-append (chars front) mid ∙ ap (λ x. x ++ encode_utf8_all mid) (encodes-chars front utf8'))
 
--- what follows what follows is behind the text too
+-- a suffix of a suffix is a suffix of the text
 pub ends_with_both : (text mid rest : List ℕ) → EndsWith text mid → EndsWith mid rest → EndsWith text rest
 ends_with_both text mid rest a b =
     record { front = a.front ++ b.front; parts = a.parts ∙ ap (λ x. a.front ++ x) b.parts ∙ sym (append_assoc a.front b.front rest) }

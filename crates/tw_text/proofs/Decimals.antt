@@ -1,4 +1,4 @@
--- Decimal texts and the digits at a front.
+-- Decimal texts, and the digits that a text begins with.
 use Rattle.std.proofs.Common.{◌≡◌, ◌∙◌, ap, sym, ℕ, ◌+◌, ◌*◌, ◌<◌, ◌≤◌, ◌^◌, Bool, true, false, cond, List, [], ◌∷◌, ◌++◌, length, take, get_or, decimal, inl, inr, refl, arith}
 use Rattle.std.proofs.lemmas.Bool.{and_parts, cases_lt}
 use Rattle.std.specs.Char.{is_ascii_digit, digit_value}
@@ -14,7 +14,7 @@ use Rattle.std.proofs.lemmas.Str.Parse.{numerals_by_value, tells_all_ascii_digit
 use Rattle.std.proofs.lemmas.Fmt.{decimal_digit, decimal_nonempty, first_decimal, digits_decimal, digits_value-decimal, decimal-digits_value, decimal_injective}
 use Rattle.tw_text.specs.Digits.{digit_run}
 
--- digits before a byte that is none are the whole run
+-- digits before a byte that is no digit are the whole run
 digit_run-all : (digits : List ℕ) (c : ℕ) (rest : List ℕ) → all_ascii_digits digits ≡ true → is_ascii_digit c ≡ false → digit_run (digits ++ c ∷ rest) ≡ digits
 digit_run-all [] c rest all none = rw (take_while-cons is_ascii_digit c rest, none)
 digit_run-all (b ∷ digits) c rest all none =
@@ -25,7 +25,7 @@ pub digit_run-decimal : (n c : ℕ) (rest : List ℕ) → n < 2 ^ 64 → is_asci
 digit_run-decimal n c rest small none =
     digit_run-all (decimal n) c rest (digits_decimal (numerals_by_value _ tells_all_ascii_digits) n small) none
 
--- a decimal text that ends at a byte which is no digit tells its number and what follows
+-- a decimal text before a byte that is no digit determines its number, and the text after it
 pub decimal-delimited : (n m c d : ℕ) (xs ys : List ℕ) → n < 2 ^ 64 → m < 2 ^ 64 → is_ascii_digit c ≡ false → is_ascii_digit d ≡ false
     → decimal n ++ c ∷ xs ≡ decimal m ++ d ∷ ys → (n ≡ m) × (c ∷ xs ≡ d ∷ ys)
 decimal-delimited n m c d xs ys small small' none none' e =
@@ -35,7 +35,7 @@ decimal-delimited n m c d xs ys small small' none none' e =
     let behind' = front_rest text (decimal m) (d ∷ ys) e in
     (decimal_injective n m small small' same, cc)
 
--- bytes so far that belong to the run, and a digit behind them, which then belongs to it too
+-- a digit after bytes of the run belongs to the run
 pub run_goes_on : (bytes : List ℕ) (i : ℕ) → i ≤ prefix_len is_ascii_digit bytes → i < length bytes → is_ascii_digit (get_or bytes i 0) ≡ true → i < prefix_len is_ascii_digit bytes
 run_goes_on bytes i front within digit = elim (cases_lt i (prefix_len is_ascii_digit bytes)) [
   | inl before ↦ before
@@ -45,7 +45,7 @@ run_goes_on bytes i front within digit = elim (cases_lt i (prefix_len is_ascii_d
       absurd (cc)
 ]
 
--- and no digit behind them, which then are the run
+-- bytes of the run without a digit after them are the whole run
 pub run_ends : (bytes : List ℕ) (i value : ℕ) → i ≤ prefix_len is_ascii_digit bytes → value ≡ digits_value 10 (take i bytes) → (i < length bytes → is_ascii_digit (get_or bytes i 0) ≡ false) → (value ≡ digits_value 10 (digit_run bytes)) × (i ≡ length (digit_run bytes))
 run_ends bytes i value front is none = elim (cases_lt i (prefix_len is_ascii_digit bytes)) [
   | inl before ↦
@@ -56,7 +56,7 @@ run_ends bytes i value front is none = elim (cases_lt i (prefix_len is_ascii_dig
       (is ∙ ap (λ k. digits_value 10 (take k bytes)) end, end ∙ sym (length-prefix_len is_ascii_digit bytes))
 ]
 
--- where the digits so far and one more write too large a number, the run does
+-- if the digits so far and one more write too large a number, the run does
 pub run_too_large : (bytes : List ℕ) (i : ℕ) → i < prefix_len is_ascii_digit bytes → 2 ^ 64 ≤ digits_value 10 (take i bytes) * 10 + digit_value (get_or bytes i 0) → 2 ^ 64 ≤ digits_value 10 (digit_run bytes)
 run_too_large bytes i within large =
     let front = ap (digits_value 10) (take-take (i + 1) (prefix_len is_ascii_digit bytes) bytes (omega arith)) in
@@ -77,17 +77,17 @@ run_decimal bytes value is small some lead =
     let first = get_or-take (prefix_len is_ascii_digit bytes) bytes 0 0 (omega (arith, some, length-prefix_len is_ascii_digit bytes)) in
     sym (decimal-digits_value (numerals_by_value _ tells_all_ascii_digits) (digit_run bytes) (run_digits bytes) some (λ e. lead (sym first ∙ e)) (omega (arith, is, small))) ∙ ap decimal (sym is)
 
--- a run that writes too large a number is no text of a small one
+-- a run that writes too large a number is no decimal text of a 64-bit number
 pub not_too_large : (run : List ℕ) → 2 ^ 64 ≤ digits_value 10 run → (n : ℕ) → n < 2 ^ 64 → run ≡ decimal n → ⊥
 not_too_large run large n small e =
     let value = ap (digits_value 10) e ∙ digits_value-decimal (numerals_by_value _ tells_all_ascii_digits) n small in
     omega (arith, large, value, small)
 
--- nor is one without digits
+-- an empty run is none
 pub not_empty : (run : List ℕ) → 0 ≡ length run → (n : ℕ) → n < 2 ^ 64 → run ≡ decimal n → ⊥
 not_empty run none n small e = omega (arith, none, ap length e, decimal_nonempty n small)
 
--- nor one with a leading zero before a further digit
+-- a run with a leading zero before a further digit is none
 pub no_leading_zero : (bytes : List ℕ) → 1 < length (digit_run bytes) → get_or bytes 0 0 ≡ 48 → (n : ℕ) → n < 2 ^ 64 → digit_run bytes ≡ decimal n → ⊥
 no_leading_zero bytes more zero n small e =
     let first = get_or-take (prefix_len is_ascii_digit bytes) bytes 0 0 (omega (arith, more, length-prefix_len is_ascii_digit bytes)) in

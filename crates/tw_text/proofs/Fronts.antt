@@ -1,4 +1,4 @@
--- The laws of fronts.
+-- The laws of prefixes.
 use Rattle.std.proofs.Common.{◌≡◌, ◌+◌, ap, ℕ, nat_eq, Bool, true, false, ◌&&◌, cond, List, [], ◌∷◌, ◌++◌, length, take, drop, Option, Some, None, Bor, MatchOption, refl}
 use Rattle.std.specs.Option.{option_copied}
 use Rattle.std.specs.Cmp.Lexicographic.{pointwise}
@@ -23,7 +23,7 @@ append-after [] bytes rest found = cc
 append-after (c ∷ front) [] rest found = cc
 append-after (c ∷ front) (byte ∷ bytes) rest found = more (nat_eq byte c) c byte bytes rest (front ++ rest) refl (after front bytes) found (append-after front bytes rest)
 
--- the same by the test of std's `strip_prefix`
+-- `after` by the test of std's `strip_prefix`
 after_by_test : (front bytes : List ℕ) → after front bytes ≡ cond (pointwise nat_eq (take (length front) bytes) front) (Some (drop (length front) bytes)) None
 unfolding after
 after_by_test [] bytes = refl

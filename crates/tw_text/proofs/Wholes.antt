@@ -1,4 +1,4 @@
--- Texts that are digits as a whole.
+-- Texts that consist of digits.
 use Rattle.std.proofs.Common.{◌≡◌, ◌∙◌, ap, sym, ℕ, ◌<◌, ◌^◌, true, List, [], ◌∷◌, length, min, decimal, refl, arith}
 use Rattle.std.proofs.lemmas.Bool.{and_parts}
 use Rattle.std.specs.Char.{is_ascii_digit}
@@ -16,18 +16,18 @@ digit_run-digits (b ∷ digits) all =
     let both = and_parts (is_ascii_digit b) (all_ascii_digits digits) all in
     take_while-cons is_ascii_digit b digits ∙ rw (both.0, digit_run-digits digits both.1) refl
 
--- a decimal text is its own run of digits
+-- a decimal text is its own prefix of digits
 pub digit_run-whole : (n : ℕ) → n < 2 ^ 64 → digit_run (decimal n) ≡ decimal n
 digit_run-whole n small = digit_run-digits (decimal n) (digits_decimal (numerals_by_value _ tells_all_ascii_digits) n small)
 
--- a run of digits as long as the text is the text
+-- a prefix of digits as long as the text is the text
 pub whole_run : (bytes : List ℕ) → length bytes ≡ length (digit_run bytes) → digit_run bytes ≡ bytes
 whole_run bytes same =
     let end = prefix_len is_ascii_digit bytes in
     let e : length bytes ≡ min end (length bytes) = same ∙ length-take end bytes in
     take_all end bytes (omega arith)
 
--- a text whose run of digits is another is no decimal text
+-- a text whose prefix of digits is no decimal text is no decimal text
 pub no_decimal : (bytes : List ℕ) → ((n : ℕ) → n < 2 ^ 64 → digit_run bytes ≡ decimal n → ⊥) → (n : ℕ) → n < 2 ^ 64 → bytes ≡ decimal n → ⊥
 no_decimal bytes none n small same = none n small (ap digit_run same ∙ digit_run-whole n small)
 

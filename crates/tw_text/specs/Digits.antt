@@ -1,9 +1,9 @@
--- Digits at the front of a text.
+-- The digits that a text begins with.
 use Rattle.std.specs.Prelude.{◌≡◌, List, [], codes, refl, ℕ}
 use Rattle.std.specs.List.{take_while}
 use Rattle.std.specs.Char.{is_ascii_digit}
 
--- the longest run of ASCII digits at the front
+-- the longest prefix of ASCII digits
 abbrev pub digit_run : List ℕ → List ℕ
 digit_run bytes = take_while is_ascii_digit bytes
 

@@ -1,7 +1,7 @@
--- Fronts of a text.
+-- Prefixes of a text.
 use Rattle.std.specs.Prelude.{◌≡◌, ◌==◌, ℕ, if◌then◌else◌, List, [], ◌∷◌, Option, Some, None, codes, refl}
 
--- what stands behind this front, where the bytes begin with it; unfoldable, as it would open over each literal otherwise
+-- the suffix after this prefix, if the bytes begin with it; unfoldable, as it would open over each literal otherwise
 unfoldable pub after : List ℕ → List ℕ → Option (List ℕ)
 after [] bytes = Some bytes
 after (c ∷ front) [] = None

@@ -4,7 +4,7 @@ use Rattle.tw_text.specs.declared.refusal.Counted.{Counted}
 use Rattle.tw_text.specs.declared.refusal.Counted.TheVariants as counted
 use Rattle.tw_text.specs.declared.limits.TheConstants.{INPUT_LIMIT, NESTING_LIMIT, STATEMENTS_LIMIT, DEPTH_LIMIT, CONTROLS_LIMIT, WIRES_LIMIT, LINES_LIMIT, STATES_LIMIT}
 
--- the greatest count that is accepted
+-- the limit: the greatest count that is accepted
 abbrev pub limit_of : Counted → ℕ
 limit_of counted.Input = INPUT_LIMIT
 limit_of counted.Nesting = NESTING_LIMIT

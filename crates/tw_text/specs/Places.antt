@@ -6,7 +6,7 @@ use Rattle.tw_text.specs.declared.place.Pos.{Pos}
 abbrev pub first_place : Pos
 first_place = record { line = 1; col = 1 }
 
--- the place behind a character: the next line's first column behind a newline
+-- the place after a character: after a newline the first column of the next line, else the next column
 abbrev pub after_char : Pos → ℕ → Pos
 after_char at c = if c == 10 then record { line = at.line + 1; col = 1 } else record at { col = at.col + 1 }
 
@@ -16,7 +16,7 @@ after_char-letter = refl
 pub after_char-newline : after_char (record { line = 3; col = 9 }) 10 ≡ record { line = 4; col = 1 }
 after_char-newline = refl
 
--- the place behind these characters
+-- the place after these characters
 abbrev pub after_chars : Pos → List ℕ → Pos
 after_chars at [] = at
 after_chars at (c ∷ cs) = after_chars (after_char at c) cs

@@ -1,4 +1,4 @@
--- Refusals and diagnostics, and the lines that say them.
+-- Refusals and diagnostics, and their lines.
 use Rattle.std.specs.Prelude.{◌≡◌, ℕ, List, ◌++◌, codes, decimal, refl}
 use Rattle.std.specs.Fmt.{digits}
 use Rattle.tw_text.specs.declared.place.Pos.{Pos}
@@ -11,11 +11,11 @@ use Rattle.tw_text.specs.declared.diagnostic.Diagnostic.{Diagnostic}
 use Rattle.tw_text.specs.declared.diagnostic.Diagnostic.TheVariants as diagnostic
 use Rattle.tw_text.specs.Limits.{limit_of}
 
--- the refusal of what breaks a rule at a place; the rule is no limit and has no numbers
+-- the refusal for a broken rule at a place; the rule is no limit, so both numbers are 0
 abbrev pub broken : Rule → Pos → Refusal
 broken rule at = record { rule = rule; at = at; found = 0; limit = 0 }
 
--- the refusal of what passes a limit, with the count that was found
+-- the refusal for a limit that is passed, with the count that was found
 abbrev pub passed : Counted → ℕ → Pos → Refusal
 passed counted found at = record { rule = rule.Limit counted; at = at; found = found; limit = limit_of counted }
 
@@ -58,7 +58,7 @@ rule_name rule.WithNotUndone = codes "with-not-undone"
 rule_name rule.Left = codes "left"
 rule_name (rule.Limit limit) = counted_name limit
 
--- the line of a refusal by its name alone
+-- the line of a refusal that has a name alone
 abbrev pub plain_line : List ℕ → List ℕ
 plain_line name = codes "refused " ++ (name ++ codes "\n")
 
@@ -75,7 +75,7 @@ abbrev pub limit_line : List ℕ → ℕ → ℕ → List ℕ
 limit_line name found limit =
     codes "refused limit " ++ (name ++ (codes " found " ++ (decimal found ++ (codes " limit " ++ (decimal limit ++ codes "\n")))))
 
--- the line of a rule, or of a limit
+-- the line of a broken rule, or of a limit that is passed
 abbrev pub rule_line : Rule → Pos → ℕ → ℕ → List ℕ
 rule_line (rule.Limit limit) at found most = limit_line (counted_name limit) found most
 rule_line other at found most = place_line (rule_name other) at

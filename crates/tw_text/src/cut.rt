@@ -1,9 +1,10 @@
+//! Texts cut in two between characters.
 ghost use Rattle.std.specs.Prelude.{◌≡◌, ◌≢◌, ◌+◌, ◌++◌, ℕ, List, [], length, IfSome};
 ghost use Rattle.std.specs.Option.{IfNone};
 ghost use Rattle.std.specs.Str.{chars};
 ghost use Rattle.tw_text.specs.Cuts.{Begins, EndsWith, Follows};
 
-/// The first character of a text, and what follows it; `None` of the empty text.
+/// The first character of a text, and the suffix after it. `None` for the empty text.
 pub fn first_char(text: &str) -> Option<(char, &str)>
     ensures some { IfSome result (λ found. Begins text.now found.0 found.1.now) }
     ensures none { IfNone result (chars text.now ≡ []) }
@@ -13,7 +14,7 @@ pub fn first_char(text: &str) -> Option<(char, &str)>
     Some((first, letters.as_str()))
 }
 
-/// What a text has before the rest that it ends with.
+/// The prefix of a text before a suffix.
 pub fn before<'t>(text: &'t str, rest: &str) -> &'t str
     requires { EndsWith text.now rest.now }
     ensures spelled { chars text.now ≡ chars result.now ++ chars rest.now }
@@ -22,7 +23,7 @@ pub fn before<'t>(text: &'t str, rest: &str) -> &'t str
     text.split_at(text.len() - rest.len()).0
 }
 
-/// What follows this front of a text; `None` where the text does not begin with it.
+/// The suffix after this prefix of a text. `None` if the text does not begin with it.
 pub fn text_after<'t>(text: &'t str, front: &str) -> Option<&'t str>
     ensures some { IfSome result (λ rest. Follows text.now front.now rest.now) }
     ensures none { IfNone result ((mid : List ℕ) → chars text.now ≢ chars front.now ++ mid) }

@@ -1,3 +1,4 @@
+//! Decimal numbers at the start of a text.
 ghost use Rattle.std.specs.Prelude.{◌≡◌, ℕ, ◌+◌, ◌*◌, ◌<◌, ◌≤◌, ◌^◌, length, decimal, IfSome};
 ghost use Rattle.std.specs.Char.{digit_value};
 ghost use Rattle.std.specs.Int.{IsInRange};
@@ -5,7 +6,7 @@ ghost use Rattle.std.specs.Option.{IfNone};
 ghost use Rattle.std.specs.Str.Parse.{digits_value};
 ghost use Rattle.tw_text.specs.Digits.{digit_run};
 
-/// The number that this digit writes behind the digits of `value`. `None` where it is above the greatest `u64`.
+/// The number that this digit writes after the digits of `value`. `None` if it is above the greatest `u64`.
 fn with_digit(value: u64, digit: u8) -> Option<u64>
     requires { IsInRange 48 57 digit }
     ensures some { IfSome result (λ more. more ≡ value * 10 + digit_value digit) }
@@ -14,8 +15,8 @@ fn with_digit(value: u64, digit: u8) -> Option<u64>
     value.checked_mul(10)?.checked_add(u64::from(digit - b'0'))
 }
 
-/// The number that the longest run of digits at the front writes, also with leading zeros, and the length of that run.
-/// `None` where the number is above the greatest `u64`.
+/// The number that the longest prefix of digits writes, also with leading zeros, and the length of that prefix in bytes.
+/// `None` if the number is above the greatest `u64`.
 fn digits_number(bytes: &[u8]) -> Option<(u64, usize)>
     ensures value { IfSome result (λ found. found.0 ≡ digits_value 10 (digit_run bytes.now)) }
     ensures used { IfSome result (λ found. found.1 ≡ length (digit_run bytes.now)) }
@@ -30,9 +31,9 @@ fn digits_number(bytes: &[u8]) -> Option<(u64, usize)>
     Some((value, used))
 }
 
-/// The decimal number at the front of the bytes, and how many bytes it takes: the whole of the longest run of digits there.
-/// `None` where no digit stands at the front, where a leading zero stands before a further digit,
-/// and where the number is above the greatest `u64`.
+/// The decimal number that the longest prefix of digits is, and the length of that prefix in bytes.
+/// `None` if that prefix is empty, if it has a leading zero before a further digit,
+/// or if the number is above the greatest `u64`.
 pub fn read_decimal(bytes: &[u8]) -> Option<(u64, usize)>
     ensures some { IfSome result (λ found. (digit_run bytes.now ≡ decimal found.0) × (found.1 ≡ length (digit_run bytes.now))) }
     ensures none { IfNone result ((n : ℕ) → n < 2 ^ 64 → ¬ (digit_run bytes.now ≡ decimal n)) }

@@ -1,4 +1,4 @@
-//! Diagnostics: why a request is refused, and the line that says so, put together on the stack.
+//! Diagnostics: the reason of a refusal, and its line, composed on the stack.
 ghost use Rattle.std.specs.Prelude.{◌≡◌, ◌≤◌, length};
 ghost use Rattle.tw_text.specs.Refusals.{counted_name, rule_name, plain_line, place_line, limit_line, number_line, refusal_line, diagnostic_line};
 
@@ -10,16 +10,16 @@ use itoa::Buffer;
 /// The line of a diagnostic; the longest one takes fewer bytes.
 pub type DiagnosticLine = ArrayString<128>;
 
-/// Why a request is refused.
+/// The reason of a refusal.
 #[derive(Debug, Clone, Copy, PartialEq, Eq)]
 pub enum Diagnostic {
-    /// The arguments are not those of a command.
+    /// The command-line arguments are not those of a command.
     Usage,
     /// The source breaks a rule, or a limit is passed.
     Refused(Refusal),
-    /// A gate file is wrong at this line, counted from 1.
+    /// A gate file is wrong at this line. Lines count from 1.
     BadGateText { line: u32 },
-    /// This line of bits is wrong, counted from 1.
+    /// This line of bits is wrong. Lines count from 1.
     BitsLength { line: u32 },
     /// A gate file of level t can't be simulated.
     LevelT,
@@ -28,9 +28,9 @@ pub enum Diagnostic {
 }
 
 impl Diagnostic {
-    /// The line that says so, ended by a newline: `refused NAME`, `refused NAME at LINE:COL` for a rule of the source,
-    /// `refused limit NAME found F limit L` for a limit, `refused NAME at line N` for a line of a gate file or of bits. All
-    /// numbers are decimal.
+    /// The line of the diagnostic, with its newline. It is `refused NAME at LINE:COL` for a rule of the source,
+    /// `refused limit NAME found F limit L` for a limit, `refused NAME at line N` for a line of a gate file or of bits, and
+    /// `refused NAME` for the others. All numbers are decimal.
     pub fn line(&self) -> DiagnosticLine
         ensures { result.bytes ≡ diagnostic_line self.now }
     {
@@ -46,7 +46,7 @@ impl Diagnostic {
 }
 
 impl Counted {
-    /// The name of the limit, as its line has it.
+    /// The name of the limit in its line.
     pub fn name(&self) -> &'static str
         ensures name { result.now ≡ counted_name self.now }
         ensures short { length result.now ≤ 10 }
@@ -65,7 +65,7 @@ impl Counted {
 }
 
 impl Rule {
-    /// The name of the rule, as its line has it: small letters, with `-` between words.
+    /// The name of the rule in its line: lower-case words, joined by `-`.
     pub fn name(&self) -> &'static str
         ensures name { result.now ≡ rule_name self.now }
         ensures short { length result.now ≤ 17 }
@@ -100,7 +100,7 @@ impl Rule {
     }
 }
 
-/// The line of a refusal by its name alone.
+/// The line of a refusal that has a name alone.
 fn plain_line(name: &str) -> DiagnosticLine
     requires { length name.now ≤ 17 }
     ensures { result.bytes ≡ plain_line name.now }

@@ -1,7 +1,8 @@
+//! Splits a text after its digits.
 ghost use Rattle.std.specs.Prelude.{◌≡◌, ◌++◌};
 ghost use Rattle.tw_text.specs.Digits.{digit_run};
 
-/// The longest run of ASCII digits at the front, and what follows it.
+/// The longest prefix of ASCII digits, and the suffix after it.
 pub fn split_digits(bytes: &[u8]) -> (&[u8], &[u8])
     ensures run { result.0.now ≡ digit_run bytes.now }
     ensures parts { bytes.now ≡ result.0.now ++ result.1.now }

@@ -1,8 +1,9 @@
+//! Prefixes of bytes.
 ghost use Rattle.std.specs.Prelude.{◌≡◌};
 ghost use Rattle.std.specs.Option.{option_copied};
 ghost use Rattle.tw_text.specs.Front.{after};
 
-/// What stands behind this front; `None` where the bytes do not begin with it.
+/// The suffix after this prefix. `None` if the bytes do not begin with it.
 pub fn after<'t>(bytes: &'t [u8], front: &[u8]) -> Option<&'t [u8]>
     ensures { option_copied result ≡ after front.now bytes.now }
 {

@@ -1,5 +1,6 @@
-//! Texts: decimal numbers, prefixes, places by line and column; the limits, why a request is refused and the line that says
-//! so; and the type of arenas. The definitions of `specs/` say what each of these is, and `proofs/` has their laws.
+//! Texts: decimal numbers, prefixes, and places by line and column.
+//! The limits of inputs. The reasons of refusals, and their lines. The type of arenas.
+//! The definitions of `specs/` say what each of these is, and `proofs/` has their laws.
 #![tactic(auto)]
 
 mod cut;

@@ -13,7 +13,7 @@ pub const NESTING_LIMIT: u64 = 64;
 /// The most statements that are run.
 pub const STATEMENTS_LIMIT: u64 = 1_000_000;
 
-/// The most statements that lie in one another.
+/// The most statements that are nested in one another.
 pub const DEPTH_LIMIT: u64 = 1_000;
 
 /// The most controls of one gate.
@@ -29,7 +29,7 @@ pub const LINES_LIMIT: u64 = 4_194_304;
 pub const STATES_LIMIT: u64 = 1_024;
 
 impl Counted {
-    /// The greatest count that is accepted.
+    /// The limit: the greatest count that is accepted.
     pub fn limit(self) -> u64
         ensures { result ≡ limit_of self }
     {

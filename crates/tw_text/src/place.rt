@@ -1,10 +1,11 @@
+//! Places in a text.
 ghost use Rattle.std.specs.Prelude.{◌≡◌, ◌<◌, ◌≤◌, ◌+◌, length};
 ghost use Rattle.std.specs.Str.{chars};
 ghost use Rattle.tw_text.specs.Places.{first_place, after_char, after_chars};
 
 use crate::cut::first_char;
 
-/// A place in a text: its line, and the column of a character in it. Both count from 1; a column counts characters.
+/// A place in a text: the line and the column of a character. Both count from 1. A column counts characters, not bytes.
 #[derive(Debug, Clone, Copy, PartialEq, Eq)]
 pub struct Pos {
     pub line: u32,
@@ -12,7 +13,7 @@ pub struct Pos {
 }
 
 impl Pos {
-    /// The place behind a character that stands here.
+    /// The place after a character that is at this place.
     pub fn after(self, c: char) -> Pos
         requires line { self.line < 4294967295 }
         requires col { self.col < 4294967295 }
@@ -31,7 +32,7 @@ impl Pos {
         }
     }
 
-    /// The place behind a text that begins here. Line and column grow by the length of the text in bytes at most.
+    /// The place after a text that begins here. Line and column each grow by at most the length of the text in bytes.
     pub fn after_text(self, text: &str) -> Pos
         requires line { self.line + length text.now < 4294967296 }
         requires col { self.col + length text.now < 4294967296 }
@@ -51,7 +52,7 @@ impl Pos {
     }
 }
 
-/// The place behind a text that begins at line 1, column 1.
+/// The place after a text that begins at line 1, column 1.
 pub fn place_after(text: &str) -> Pos
     requires { length text.now < 4294967295 }
     ensures { result ≡ after_chars first_place (chars text.now) }

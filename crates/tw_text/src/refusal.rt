@@ -1,3 +1,4 @@
+//! Refusals: the rules of sources, and what limits count.
 ghost use Rattle.std.specs.Prelude.{◌≡◌};
 ghost use Rattle.tw_text.specs.Refusals.{broken, passed};
 
@@ -6,7 +7,7 @@ use bumpalo::Bump;
 use std::alloc::Global;
 use thiserror::Error;
 
-/// The arena of syntax trees, types and names. It is owned outside of all that borrows from it.
+/// The arena of syntax trees, types and names. Its owner outlives all that borrows from it.
 pub type Arena = Bump<Global>;
 
 /// What a limit counts.
@@ -18,7 +19,7 @@ pub enum Counted {
     Nesting,
     /// Statements that are run.
     Statements,
-    /// Statements that lie in one another.
+    /// Statements that are nested in one another.
     Depth,
     /// Controls of one gate.
     Controls,
@@ -30,22 +31,22 @@ pub enum Counted {
     States,
 }
 
-/// Why a source is refused.
+/// The reason why a source is refused: the rule that it breaks, or the limit that it passes.
 #[derive(Debug, Clone, Copy, PartialEq, Eq)]
 pub enum Rule {
-    /// A byte begins no character.
+    /// Invalid UTF-8: a byte begins no character.
     Utf8,
-    /// Characters are no token.
+    /// Lexical error: characters are no token.
     Token,
-    /// No program goes on with this token.
+    /// Syntax error: no program continues with this token.
     Syntax,
     /// A name is declared twice.
     DuplicateName,
     /// A name is not declared.
     UnknownName,
-    /// A type holds itself outside of pointers.
+    /// A type contains itself outside of pointers.
     RecursiveType,
-    /// A type has pairs in pairs too deep.
+    /// The pairs of a type are nested too deep.
     TypeTooDeep,
     /// A type is too large.
     TypeTooLarge,
@@ -53,7 +54,7 @@ pub enum Rule {
     CallOrder,
     /// A call has a bound too many or too few, or a wrong number of arguments.
     BadCall,
-    /// An argument stands twice in a call.
+    /// An argument occurs twice in a call.
     RepeatedArgument,
     /// A number does not fit a word.
     LiteralTooWide,
@@ -69,7 +70,7 @@ pub enum Rule {
     NotDeclared,
     /// A name has a value already.
     Redeclared,
-    /// A name that a condition holds is written.
+    /// A name that occurs in a condition is written.
     ConditionWritten,
     /// A name is computed from itself.
     SelfUse,
@@ -85,7 +86,7 @@ pub enum Rule {
     Limit(Counted),
 }
 
-/// A refusal: the rule, its place, and two numbers: what was counted and the limit, or 0 where the rule has none.
+/// A refusal: the rule, its place, the count that was found, and the limit. Both numbers are 0 if the rule is no limit.
 #[derive(Debug, Clone, Copy, PartialEq, Eq)]
 pub struct Refusal {
     pub rule: Rule,
@@ -95,7 +96,7 @@ pub struct Refusal {
 }
 
 impl Refusal {
-    /// The refusal of what breaks a rule at a place. The rule is no limit and has no numbers.
+    /// The refusal for a broken rule at a place. The rule is no limit, so both numbers are 0.
     pub fn broken(rule: Rule, at: Pos) -> Refusal
         ensures { result ≡ broken rule at }
     {
@@ -107,7 +108,8 @@ impl Refusal {
         }
     }
 
-    /// The refusal of what passes a limit, with the count that was found. The place of each limit but `Nesting` is 1:1.
+    /// The refusal for a limit that is passed, with the count that was found. Callers give the place 1:1
+    /// for each limit but `Nesting`.
     pub fn passed(counted: Counted, found: u64, at: Pos) -> Refusal
         ensures { result ≡ passed counted found at }
     {

@@ -1,3 +1,4 @@
+//! Concrete numbers, prefixes, places, lines of diagnostics and limits, each against a written value.
 use crate::{
     Counted, Diagnostic, Fault, Pos, Refusal, Rule, after, place_after, read_decimal, split_digits,
 };

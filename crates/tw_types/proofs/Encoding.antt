@@ -24,7 +24,7 @@ pub number_bits-injective : (width m n : ℕ) → m < 2 ^ width → n < 2 ^ widt
 number_bits-injective width m n fits also same =
     number_of_bits width m (number_bits width n) fits same ∙ bits_number-number_bits width n also
 
--- appended lists that are equal have equal parts, where the first parts have one length
+-- if concatenations are equal and their first parts have one length, their parts are equal
 pub append-injective : (xs ys us vs : List Bool) → length xs ≡ length us → xs ++ ys ≡ us ++ vs → (xs ≡ us) × (ys ≡ vs)
 append-injective xs ys us vs len same = (
   sym (take-append_seam xs ys) ∙ (ap (take (length xs)) same ∙ (ap (λ n. take n (us ++ vs)) len ∙ take-append_seam us vs)),
@@ -87,14 +87,14 @@ one_taken at [] within = absurd (omega (arith, within))
 one_taken zero (bit ∷ bits) within = refl
 one_taken (suc at) (bit ∷ bits) within = one_taken at bits (omega (arith, within))
 
--- two parts taken, the second right after the first
+-- two parts taken, the second directly after the first
 pub two_taken : (at m n next : ℕ) (bits xs ys : List Bool) → xs ≡ taken at m bits → next ≡ at + m → ys ≡ taken next n bits → xs ++ ys ≡ taken at (m + n) bits
 two_taken at m n next bits xs ys one place two =
     ap (λ first. first ++ ys) (one ∙ sym (taken_first at m n bits))
     ∙ ap (λ second. take m (taken at (m + n) bits) ++ second) (two ∙ (ap (λ k. taken k n bits) place ∙ sym (taken_second at m n bits)))
     ∙ take-append-drop m (taken at (m + n) bits)
 
--- the second part of a pair is written right after the first
+-- the second half of a pair is written directly after the first
 pub pair_written : (widths : Widths) (x y : Value) (first : Ty) (n at next : ℕ) (old middle new : List Bool) → HasType widths x first → at + (size widths first + n) ≤ length old → next ≡ at + size widths first → middle ≡ written at (value_bits widths x) old → new ≡ written next (value_bits widths y) middle → new ≡ written at (value_bits widths (PairValue x y)) old
 pair_written widths x y first n at next old middle new typed within place one two =
     let len = length-value_bits widths x first typed in

@@ -1,4 +1,4 @@
--- How many bits values have.
+-- The number of bits of values.
 use Rattle.std.proofs.Common.{◌≡◌, ◌≤◌, List, [], ◌∷◌, length, refl, arith, length-append}
 use Rattle.tw_bits.proofs.Laws.{length-number_bits}
 use Rattle.tw_types.specs.Types.{Widths, Ty, UnitTy, Word, Boolean, Pointer, PairTy, Target, size, block_size}

@@ -1,4 +1,4 @@
--- The table of targets: places of texts, an appended target, and another type at one place.
+-- The table of targets: the places of texts, an appended target, and another type at one place.
 use denote.Bor.{Bor}
 use Rattle.std.proofs.Common.{◌≡◌, ◌≢◌, ◌∙◌, ap, sym, ℕ, zero, suc, ◌+◌, ◌≤◌, Bool, true, false, cond, not, List, [], ◌∷◌, ◌++◌, map, length, position, Some, None, option_map, slice_get, get_or, arith, refl, true≢false, bytes_eq}
 use Rattle.std.specs.List.{AllByRecursion, position_or_len}
@@ -19,7 +19,7 @@ module _ {X : Type 0} (p : X → Bool) where
   abbrev Fails : List X → Type 0
   Fails xs = AllByRecursion (λ x. p x ≡ false) xs
 
-  -- where the first place is past the end, no element passes
+  -- if the first place is past the end, no element passes
   fails_from : (xs : List X) → length xs ≤ position_or_len p xs → Fails xs
   fails_from [] long = tt
   fails_from (x ∷ xs) long = by (p x) refl long (fails_from xs)
@@ -28,7 +28,7 @@ module _ {X : Type 0} (p : X → Bool) where
       by true e long rest = absurd (omega (arith, long))
       by false e long rest = (e, rest (omega (arith, long)))
 
-  -- and so it is where there is no place
+  -- no place means that no element passes
   pub fails_of_none : (xs : List X) → position p xs ≡ None → Fails xs
   fails_of_none xs none = fails_from xs (grind (arith, common_steps))
 
@@ -55,18 +55,18 @@ place_of-keys text entries =
     place-map (λ (target : Target). bytes_eq text target.written) target_of entries
     ∙ sym (place-map (λ (key : Bor (List ℕ)). bytes_eq text key.now) (λ entry. entry.0) entries)
 
--- a text that is not there differs from all that are
+-- a text that is not there differs from all that are there
 different_of_fails : (text : List ℕ) (targets : List Target) → Fails (λ target. bytes_eq text target.written) targets → AllByRecursion (λ target. target.written ≢ text) targets
 different_of_fails text [] fails = tt
 different_of_fails text (target ∷ targets) fails =
     ((λ same. true≢false (sym ((bytes_eq-Decides text target.written).1 (sym same)) ∙ fails.0)), different_of_fails text targets fails.1)
 
--- what holds of all and of one more
+-- a property of all elements and of one more is a property of all elements of the longer list
 all_appended : {X : Type 0} (P : X → Type 0) (xs : List X) (x : X) → AllByRecursion P xs → P x → AllByRecursion P (xs ++ x ∷ [])
 all_appended P [] x all one = (one, tt)
 all_appended P (y ∷ xs) x all one = (all.0, all_appended P xs x all.1 one)
 
--- targets with another one appended that is written otherwise
+-- distinct targets are distinct with one of another text appended
 distinct_appended : (targets : List Target) (target : Target) → AreDistinct targets → AllByRecursion (λ other. other.written ≢ target.written) targets → AreDistinct (targets ++ target ∷ [])
 distinct_appended [] target distinct apart = (tt, tt)
 distinct_appended (other ∷ targets) target distinct apart =
@@ -76,12 +76,12 @@ pub distinct-interned : (text : List ℕ) (ty : Ty) (targets : List Target) → 
 distinct-interned text ty targets none distinct =
     distinct_appended targets _ distinct (different_of_fails text targets (fails_of_none _ targets none))
 
--- the place of a new text is after the others
+-- the place of a new text is the place after the others
 pub place_of-new : (text : List ℕ) (ty : Ty) (targets : List Target) → place_of text targets ≡ None → place_of text (targets ++ record { written = text; ty = ty } ∷ []) ≡ Some (length targets)
 place_of-new text ty targets none =
     place-appended (λ target. bytes_eq text target.written) targets _ (fails_of_none _ targets none) ((bytes_eq-Decides text text).1 refl)
 
--- a known text changes nothing, and a new one is appended
+-- a known text changes nothing; a new one is appended
 pub interned-known : (text : List ℕ) (targets : List Target) {place : ℕ} → place_of text targets ≡ Some place → interned text targets ≡ targets
 interned-known text targets known = rw known refl
 
@@ -104,7 +104,7 @@ length-defined place t [] = refl
 length-defined zero t (target ∷ targets) = refl
 length-defined (suc place) t (target ∷ targets) = ap suc (length-defined place t targets)
 
--- and how they are written
+-- another type at one place keeps the texts of the targets
 all-defined : (P : List ℕ → Type 0) (place : ℕ) (t : Ty) (targets : List Target) → AllByRecursion (λ target. P target.written) targets → AllByRecursion (λ target. P target.written) (defined place t targets)
 all-defined P place t [] all = tt
 all-defined P zero t (target ∷ targets) all = all

@@ -1,4 +1,4 @@
--- Types and targets as lists of numbers that determine them, which a struct needs if its value is a list of targets.
+-- Types and targets as lists of numbers that determine them. A struct needs this if its value is a list of targets.
 use Rattle.std.specs.Prelude.{◌≡◌, ℕ, zero, suc, List, [], ◌∷◌, ◌++◌, fold, refl}
 use Rattle.std.proofs.Common.{◌∙◌, ap}
 use Rattle.std.proofs.lemmas.List.Sums.{fold-append}

@@ -4,7 +4,7 @@ use Rattle.std.specs.List.{AllByRecursion}
 use Rattle.std.specs.Str.{bytes_eq}
 use Rattle.tw_types.specs.Types.{Ty, UnitTy, Word, Boolean, Target}
 
--- no two of the targets are written the same
+-- the texts of the targets are all different
 abbrev pub AreDistinct : List Target → Type 0
 AreDistinct [] = Unit {0}
 AreDistinct (target ∷ targets) = AllByRecursion (λ other. target.written ≢ other.written) targets × AreDistinct targets
@@ -13,7 +13,7 @@ AreDistinct (target ∷ targets) = AllByRecursion (λ other. target.written ≢ 
 abbrev pub place_of : List ℕ → List Target → Option ℕ
 place_of text targets = position (λ target. bytes_eq text target.written) targets
 
--- the targets with this text among them: unchanged, or with it appended, for `()`
+-- the targets with this text among them: unchanged, or with it appended and the type `()`
 abbrev pub interned : List ℕ → List Target → List Target
 interned text targets =
     if is_some (place_of text targets) then targets else targets ++ record { written = text; ty = UnitTy } ∷ []

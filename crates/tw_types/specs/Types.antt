@@ -14,7 +14,7 @@ pub record AreInRange (widths : Widths) : Type 0 where
   pub addr_from : 1 ≤ widths.addr
   pub addr_to : widths.addr ≤ ADDR_LIMIT
 
--- a type; a pointer has its target's number in the list of targets
+-- a type; a pointer has the number of its target in the list of targets
 pub data Ty : Type 0 where
   UnitTy : Ty
   Word : Ty
@@ -30,7 +30,7 @@ size widths Boolean = 1
 size widths (Pointer target) = widths.addr
 size widths (PairTy first second) = size widths first + size widths second
 
--- the extent: as the size, where `()` counts 1
+-- the extent: the size, but `()` counts 1
 abbrev pub extent : Widths → Ty → ℕ
 extent widths UnitTy = 1
 extent widths Word = widths.word
@@ -52,7 +52,7 @@ abbrev pub block_size : Widths → List Target → ℕ
 block_size widths [] = widths.addr
 block_size widths (target ∷ targets) = max (size widths target.ty) (block_size widths targets)
 
--- three blocks of two bits, where addresses have two bits and there are no targets
+-- three blocks of two bits, if addresses have two bits and there are no targets
 pub three_blocks : block_count (record { word = 1; addr = 2 }) ≡ 3
 three_blocks = refl
 
@@ -63,7 +63,7 @@ block_of_two_bits = refl
 abbrev item : Ty
 item = PairTy Word (Pointer 0)
 
--- in words of 32 bits and addresses of 8, an item has 40 bits, and its block as many
+-- in words of 32 bits and addresses of 8, an item has 40 bits, and so has its block
 pub size_of_item : size (record { word = 32; addr = 8 }) item ≡ 40
 size_of_item = refl
 

@@ -20,7 +20,7 @@ HasType widths (Address block) (Pointer target) = block ≤ block_count widths
 HasType widths (PairValue x y) (PairTy first second) = HasType widths x first × HasType widths y second
 HasType widths value ty = ⊥
 
--- `true` is no word
+-- `true` does not have the type of words
 pub truth_is_no_word : HasType (record { word = 3; addr = 2 }) (Truth true) Word → ⊥
 truth_is_no_word typed = typed
 

@@ -12,7 +12,7 @@ use crate::widths::Widths;
 use std::alloc::{AllocError, Global};
 use tw_bits::Bits;
 
-/// Writes a number into `len` bits from a place on, and gives the place after them.
+/// Writes a number into `len` bits from a place on, and returns the place after them.
 fn put(bits: &mut Bits, at: usize, len: u32, n: u64) -> usize
     requires word { len ≤ 64 }
     requires within { at + len ≤ length bits.old }
@@ -26,7 +26,7 @@ fn put(bits: &mut Bits, at: usize, len: u32, n: u64) -> usize
     at + len as usize
 }
 
-/// Writes the bits of a value from a place on, and gives the place after them.
+/// Writes the bits of a value from a place on, and returns the place after them.
 fn put_value(val: &Val, ty: &Ty, widths: Widths, bits: &mut Bits, at: usize) -> usize
     requires typed { HasType widths (value_of val.now) (ty_of ty.now) }
     requires within { at + size widths (ty_of ty.now) ≤ length bits.old }
@@ -48,9 +48,8 @@ fn put_value(val: &Val, ty: &Ty, widths: Widths, bits: &mut Bits, at: usize) -> 
     }
 }
 
-/// Writes the bits of a value of a type, from `at` on, and changes no other bit: those of a number or an address with the
-/// least bit first, `true` as 1, and the first half of a pair before the second. It takes no memory.
-/// The bits lie within the list.
+/// Writes the bits of a value of a type from `at` on, and changes no other bit. A number or an address has its least bit first,
+/// `true` is 1, and the first half of a pair comes before the second. The bits lie within the list. Does not allocate.
 pub fn encode_into(val: &Val, ty: &Ty, widths: Widths, bits: &mut Bits, at: usize)
     requires typed { HasType widths (value_of val.now) (ty_of ty.now) }
     requires within { at + size widths (ty_of ty.now) ≤ length bits.old }
@@ -62,7 +61,7 @@ pub fn encode_into(val: &Val, ty: &Ty, widths: Widths, bits: &mut Bits, at: usiz
     put_value(val, ty, widths, bits, at);
 }
 
-/// The value of a type whose bits stand from a place on, and the place after them. An error: there is no memory for it.
+/// The value of a type whose bits lie from a place on, and the place after them. An error: out of memory.
 #[tactic(auto, using(crate::proofs::Encoding::one_taken, crate::proofs::Encoding::two_taken, crate::proofs::Encoding::address_within))]
 fn value_at(
     alloc: Global,
@@ -96,9 +95,9 @@ fn value_at(
     }
 }
 
-/// The one value of a type whose bits stand from `at` on: the least bit of a number or an address first, 1 for `true`, and
-/// the first half of a pair before the second. Each list of bits is that of a value. The bits lie within the list.
-/// An error: there is no memory for it.
+/// The one value of a type whose bits lie from `at` on. A number or an address has its least bit first, `true` is 1, and the
+/// first half of a pair comes before the second. Each list of bits is that of a value. The bits lie within the list.
+/// An error: out of memory.
 #[tactic(auto, using(crate::proofs::Encoding::decoded, crate::proofs::Encoding::bijective))]
 pub fn decode_from(
     alloc: Global,

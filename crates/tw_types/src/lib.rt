@@ -1,5 +1,5 @@
 //! Types and values: their sizes and zeros, the bits that encode them, and the table of the targets of pointers.
-//! The definitions of `specs/` say which values a type has and which bits encode them. The encoding of each type is bijective.
+//! The definitions of `specs/` give the values of a type and the bits that encode them. The encoding of each type is bijective.
 #![tactic(auto)]
 
 mod coding;

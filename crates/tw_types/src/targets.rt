@@ -1,3 +1,4 @@
+//! The table of the targets of pointers.
 ghost use Rattle.std.specs.Prelude.{◌≡◌, ◌<◌, ◌≤◌, [], Some, length, IfOk, OnOk, OnErr};
 ghost use Rattle.tw_types.specs.Table.{AreDistinct, defined, interned, place_of, ty_at, written_at};
 ghost use Rattle.tw_types.specs.FromCode.{ty_of};
@@ -7,8 +8,8 @@ use indexmap::IndexMap;
 use std::alloc::{AllocError, Global};
 use std::marker::Model;
 
-/// The targets of pointers, in the order in which they were first seen: each as it is written, and the type that it denotes.
-/// No two are written the same, and there are at most 4,294,967,295.
+/// The targets of pointers, in the order in which they were first seen: each as a program writes it, and the type that it
+/// denotes. Their texts are all different, and there are at most 4,294,967,295 targets.
 #[derive(Drop)]
 pub struct Targets<'a> {
     table: IndexMap<&'a str, Ty<'a>>,
@@ -32,7 +33,7 @@ impl<'a> Model for Targets<'a> {
 }
 
 impl<'a> Targets<'a> {
-    /// No targets. It takes no memory.
+    /// No targets. Does not allocate.
     pub fn new(alloc: Global) -> Targets<'a>
         ensures { result ≡ [] }
     {
@@ -49,8 +50,8 @@ impl<'a> Targets<'a> {
         self.table.len() as u32
     }
 
-    /// The place of the target that is written so. A new one is appended, and denotes `()` until it is defined.
-    /// There are fewer than 4,294,967,295 targets. An error: there is no memory for it, and the targets are as they were.
+    /// The place of the target with this text. A new one is appended, and denotes `()` until it is defined.
+    /// There are fewer than 4,294,967,295 targets. An error: out of memory, and the targets are unchanged.
     pub fn intern(&mut self, written: &'a str) -> Result<TargetId, AllocError>
         requires room { length self.old < 4294967295 }
         ensures place { IfOk result (λ id. place_of written.now self.new ≡ Some (id.0)) }
@@ -65,7 +66,7 @@ impl<'a> Targets<'a> {
         Ok(TargetId(place as u32))
     }
 
-    /// Sets the type that a target denotes. It takes no memory.
+    /// Sets the type that a target denotes. Does not allocate.
     pub fn define(&mut self, id: TargetId, ty: Ty<'a>)
         requires known { id.0 < length self.old }
         ensures { self.new ≡ defined (id.0) (ty_of ty.entry) self.old }
@@ -73,7 +74,7 @@ impl<'a> Targets<'a> {
         self.table[id.0 as usize] = ty;
     }
 
-    /// How a target is written.
+    /// The text of a target.
     pub fn written(&self, id: TargetId) -> &'a str
         requires known { id.0 < length self.now }
         ensures { written_at self.now (id.0) ≡ Some result.now }

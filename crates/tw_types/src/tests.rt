@@ -1,3 +1,4 @@
+//! Concrete types, values, widths and targets.
 ghost use Rattle.std.specs.Prelude.{◌≤◌};
 ghost use Rattle.tw_types.specs.Types.{extent};
 ghost use Rattle.tw_types.specs.FromCode.{ty_of};
@@ -100,7 +101,8 @@ fn copies_are_the_same(rt: HostRuntime) -> Result<(), Fail> {
     Ok(())
 }
 
-/// Whether the value, written among ones, has the bits of the number, the ones beside them stay, and the value is read again.
+/// Whether the value, written among ones, has the bits of the number, the ones around them are unchanged, and the value is read
+/// again.
 fn is_coded(
     alloc: Global,
     val: &Val,
@@ -162,7 +164,7 @@ fn widths_are_in_range(rt: HostRuntime) {
     assert_eq!(rt; Widths::new(3, 2), Some(THREE));
 }
 
-/// The place of a text, where one more target has room.
+/// The place of a text, if one more target has room.
 fn place<'a>(targets: &mut Targets<'a>, text: &'a str) -> Result<Option<u32>, AllocError> {
     if targets.len() == u32::MAX {
         return Ok(None);

@@ -1,3 +1,4 @@
+//! Types and their sizes.
 ghost use Rattle.std.specs.Prelude.{◌≡◌, ◌≤◌};
 ghost use Rattle.tw_types.specs.Types.{extent, size};
 ghost use Rattle.tw_types.specs.FromCode.{ty_of};
@@ -8,8 +9,7 @@ use crate::widths::Widths;
 #[derive(Debug, Clone, Copy, PartialEq, Eq)]
 pub struct TargetId(pub u32);
 
-/// A type, with each name outside pointers expanded.
-/// A pointer keeps its target as it is written, by the target's number.
+/// A type, with each name outside pointers expanded. A pointer has the number of its target, which keeps the target as written.
 #[derive(Clone, Copy)]
 pub enum Ty<'a> {
     /// `()`, of no bits.

@@ -1,3 +1,4 @@
+//! Values, their zeros and their types.
 ghost use Rattle.std.specs.Prelude.{◌≡◌, ◌<◌, ◌^◌, Decides, IfOk};
 ghost use Rattle.tw_types.specs.Values.{HasType, PairValue, zero_value};
 ghost use Rattle.tw_types.specs.FromCode.{ty_of, value_of};
@@ -11,7 +12,7 @@ use std::alloc::{AllocError, Global};
 pub enum Val {
     /// `()`.
     Unit,
-    /// A number, of type `uint` where it is below 2 to the width of a word.
+    /// A number, of type `uint` if it is below 2 to the width of a word.
     U(u64),
     /// A truth value.
     B(bool),
@@ -21,7 +22,7 @@ pub enum Val {
     Pair(Box<Val>, Box<Val>),
 }
 
-/// The pair of two values. An error: there is no memory for it.
+/// The pair of two values. An error: out of memory.
 pub(crate) fn pair(alloc: Global, first: Val, second: Val) -> Result<Val, AllocError>
     ensures { IfOk result (λ val. value_of val ≡ PairValue (value_of first) (value_of second)) }
 {
@@ -31,7 +32,7 @@ pub(crate) fn pair(alloc: Global, first: Val, second: Val) -> Result<Val, AllocE
 }
 
 /// The zero of a type: `()`, 0, false, null, or the pair of the zeros of both halves.
-/// An error: there is no memory for it.
+/// An error: out of memory.
 pub fn zero_of(alloc: Global, ty: &Ty) -> Result<Val, AllocError>
     ensures { IfOk result (λ val. value_of val ≡ zero_value (ty_of ty.now)) }
 {
@@ -48,7 +49,7 @@ pub fn zero_of(alloc: Global, ty: &Ty) -> Result<Val, AllocError>
     }
 }
 
-/// A copy of a value. An error: there is no memory for it.
+/// A copy of a value. An error: out of memory.
 pub fn copy_val(alloc: Global, val: &Val) -> Result<Val, AllocError>
     ensures { IfOk result (λ copy. value_of copy ≡ value_of val.now) }
 {
@@ -65,7 +66,7 @@ pub fn copy_val(alloc: Global, val: &Val) -> Result<Val, AllocError>
     }
 }
 
-/// Whether two values are the same.
+/// Whether two values are equal.
 pub fn same(x: &Val, y: &Val) -> bool
     ensures { Decides result (value_of x.now ≡ value_of y.now) }
 {
@@ -86,7 +87,7 @@ fn fits(n: u64, width: u32) -> bool
     width >= 64 || n >> width == 0
 }
 
-/// Whether a value has a type: a number below 2 to the width of a word has `uint`, and the address of a block or null each
+/// Whether a value has a type: a number below 2 to the width of a word has `uint`, and the address of a block, or null, has each
 /// pointer type. There are as many blocks as addresses other than null.
 pub fn has_type(val: &Val, ty: &Ty, widths: Widths) -> bool
     ensures { Decides result (HasType widths (value_of val.now) (ty_of ty.now)) }

@@ -1,3 +1,4 @@
+//! The widths of words and addresses.
 ghost use Rattle.std.specs.Prelude.{◌≡◌, is_some, Decides, IfSome};
 ghost use Rattle.tw_types.specs.Types.{AreInRange};
 

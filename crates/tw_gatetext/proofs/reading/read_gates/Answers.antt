@@ -8,7 +8,7 @@ use Rattle.tw_gatetext.proofs.Refusals.{no_file}
 use Rattle.tw_gatetext.proofs.Beginnings.{one_file, shorter, size, dropped, stopped-no_file, stopped-one}
 use Rattle.tw_gatetext.proofs.reading.read_gates.Goals as goal
 
--- what the exit of the `?` returns
+-- the result of a `?` that returns early
 stopped : (c : goal.After-from_residual) (why : GateFault) → c.from_residual.result ≡ Err why → (why ≡ fault.Memory) ⊎ IsRefusedText c.args.bytes.now why
 stopped c why is =
     let p = err_from_is_err_and c.from_residual.result c.from_residual.ensures.1 in

@@ -5,7 +5,7 @@ use Rattle.tw_sim.specs.declared.lines.LinesFault.{LinesFault}
 use Rattle.tw_sim.proofs.Laws.{bit_lines-tells, right_not_refused, one_reason}
 use Rattle.tw_sim.proofs.answer.simulate.Goals as goal
 
--- a fault that `?` hands on is the one that came
+-- the fault that `?` returns is the one that came
 handed_on : {T : Type 0} (result : Result T LinesFault) (came why : LinesFault) → IsErrAnd result (λ fault. fault ≡ came) → result ≡ Err why → why ≡ came
 handed_on result came why handed is =
     let p = err_from_is_err_and result handed in

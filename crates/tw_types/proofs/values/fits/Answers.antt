@@ -8,7 +8,7 @@ use Rattle.tw_types.proofs.values.fits.Goals as goal
 below_wide : (n width : ℕ) → n < 2 ^ 64 → 64 ≤ width → n < 2 ^ width
 below_wide n width below wide = let more : 2 ^ 64 ≤ 2 ^ width = pow-le-pow_right {n = 2} (omega arith) wide in omega (arith, below, more)
 
--- a quotient is 0 where the number is below the divisor
+-- a quotient is 0 if the number is below the divisor
 quotient_zero : (n power : ℕ) → 0 < power → n / power ≡ 0 → n < power
 quotient_zero n power some none =
     let below : n < n / power * power + power = lt-div-mul-add some in

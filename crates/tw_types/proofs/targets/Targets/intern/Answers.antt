@@ -29,7 +29,7 @@ absent : {A : Type 0} (found : Option A) → is_some found ≡ false → found �
 absent None e = cc
 absent (Some x) e = cc
 
--- and is appended
+-- a new text is appended
 appended : (c : goal.In_ok-insert) → targets_of c.insert.new.self.entries ≡ targets_of c.self.inside.table.entries ++ record { written = c.args.written.now; ty = UnitTy } ∷ []
 appended c =
     ap targets_of
