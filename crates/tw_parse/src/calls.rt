@@ -118,9 +118,12 @@ fn args<'a>(
 pub fn leads_call(cursor: &Cursor<'_>) -> bool
     ensures { result ≡ leads_call (left_of cursor.now) }
 {
+    if !leads_name(cursor) {
+        return false;
+    }
     let mut next = *cursor;
     next.advance();
-    leads_name(cursor) && (leads(Symbol::OpenBracket, &next) || leads(Symbol::OpenParen, &next))
+    leads(Symbol::OpenBracket, &next) || leads(Symbol::OpenParen, &next)
 }
 
 /// A call, in which so many brackets may open.

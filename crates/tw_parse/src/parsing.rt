@@ -35,6 +35,9 @@ fn place_of(text: &str, count: usize, left: usize) -> Pos
     requires counted { HasCount (chars text.now) count }
     ensures { (toks : List Lexed) → HasTokens (chars text.now) first_place toks → result ≡ place_left toks left (end_of text.now) }
 {
+    if left == 0 {
+        return place_after(text);
+    }
     let mut cursor = Cursor::new(text, count);
     let passed = cursor.left().saturating_sub(left);
     skip(&mut cursor, passed);
