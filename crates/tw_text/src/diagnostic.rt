@@ -158,7 +158,7 @@ fn limit_line(counted: &Counted, found: u64, limit: u64) -> DiagnosticLine
 
 impl Refusal {
     /// The line of a broken rule, or of a limit that is passed.
-    pub fn line(&self) -> DiagnosticLine
+    fn line(&self) -> DiagnosticLine
         ensures { result.bytes ≡ refusal_line self.now }
     {
         match &self.rule {

@@ -1,10 +1,11 @@
 //! Refusals: the rules of sources, and what limits count.
 ghost use Rattle.std.specs.Prelude.{◌≡◌};
 ghost use Rattle.tw_text.specs.Refusals.{broken, passed};
+ghost use Rattle.tw_text.specs.declared.refusal.Fault.TheVariants as fault;
 
 use crate::place::Pos;
 use bumpalo::Bump;
-use std::alloc::Global;
+use std::alloc::{AllocError, AllocFailed, Global};
 use thiserror::Error;
 
 /// The arena of syntax trees, types and names. Its owner outlives all that borrows from it.
@@ -129,4 +130,20 @@ pub enum Fault {
     Refused(Refusal),
     #[error("out of memory")]
     Memory,
+}
+
+impl From<AllocError> for Fault {
+    ghost from_gives = { λ _ e. e ≡ fault.Memory };
+
+    fn from(_error: AllocError) -> Fault {
+        Fault::Memory
+    }
+}
+
+impl<T: Drop> From<AllocFailed<T>> for Fault {
+    ghost from_gives = { λ _ e. e ≡ fault.Memory };
+
+    fn from(_error: AllocFailed<T>) -> Fault {
+        Fault::Memory
+    }
 }
