@@ -1,0 +1,5 @@
+pub mod Names
+pub mod Reverse
+pub mod Liveness
+pub mod Right
+pub mod Rules

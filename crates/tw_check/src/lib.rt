@@ -1,0 +1,3 @@
+//! Reversibility: whether each function of a program can be undone, or else the first rule that it breaks.
+//! The definitions of `specs/` say what each rule demands, and `proofs/` has their laws.
+#![tactic(auto)]
