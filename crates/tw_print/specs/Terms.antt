@@ -5,17 +5,8 @@ use Rattle.tw_text.specs.declared.place.Pos.{Pos}
 use Rattle.tw_syntax.specs.declared.term.OpKind.{OpKind}
 use Rattle.tw_syntax.specs.declared.term.OpKind.TheVariants as op
 use Rattle.tw_syntax.specs.Names.{NameTree, PathTree}
-use Rattle.tw_syntax.specs.Types.{WrittenTree, UnitType, UintType, BoolType, PairType, PtrType, NamedType}
+pub use Rattle.tw_syntax.specs.Types.{type_print}
 use Rattle.tw_syntax.specs.Terms.{AtomTree, PlaceAtom, NumberAtom, TrueAtom, FalseAtom, UnitAtom, NullAtom, ZeroAtom, ExprTree, OneExpr, TwoExpr, NotExpr, OpExpr, BoundTree, FixedBound, SameBound, LessBound, RhsTree, ExprRhs, CallRhs, AllocRhs}
-
--- a written type
-abbrev pub type_print : WrittenTree → List ℕ
-type_print (UnitType at) = codes "()"
-type_print (UintType at) = codes "uint"
-type_print (BoolType at) = codes "bool"
-type_print (PairType at first second) = codes "(" ++ (type_print first ++ (codes ", " ++ (type_print second ++ codes ")")))
-type_print (PtrType at to) = codes "ptr<" ++ (type_print to ++ codes ">")
-type_print (NamedType at name) = name
 
 -- the steps of a path
 abbrev pub steps_print : List ℕ → List ℕ

@@ -1,5 +1,5 @@
 -- Widths, types, their sizes, and the blocks of memory.
-use Rattle.std.specs.Prelude.{◌≡◌, ℕ, ◌+◌, ◌-◌, ◌^◌, ◌≤◌, max, List, [], ◌∷◌, refl}
+use Rattle.std.specs.Prelude.{◌≡◌, ℕ, suc, ◌+◌, ◌-◌, ◌^◌, ◌≤◌, ◌==◌, max, Bool, true, false, ◌&&◌, List, [], ◌∷◌, refl}
 use Rattle.tw_types.specs.declared.widths.TheConstants.{WORD_LIMIT, ADDR_LIMIT}
 
 -- the widths of a word and of an address, in bits
@@ -37,6 +37,20 @@ extent widths Word = widths.word
 extent widths Boolean = 1
 extent widths (Pointer target) = widths.addr
 extent widths (PairTy first second) = extent widths first + extent widths second
+
+-- the depth: a pair is one deeper than its deeper half
+abbrev pub depth : Ty → ℕ
+depth (PairTy first second) = suc (max (depth first) (depth second))
+depth other = 1
+
+-- whether two types are the same
+abbrev pub same_ty : Ty → Ty → Bool
+same_ty UnitTy UnitTy = true
+same_ty Word Word = true
+same_ty Boolean Boolean = true
+same_ty (Pointer target) (Pointer other) = target == other
+same_ty (PairTy first second) (PairTy other last) = same_ty first other && same_ty second last
+same_ty ty other = false
 
 -- a target of pointers: its type as it is written, and the type that this denotes
 pub record Target : Type 0 where
@@ -79,3 +93,12 @@ size_of_nested = refl
 
 pub extent_of_nested : extent (record { word = 3; addr = 2 }) nested ≡ 3
 extent_of_nested = refl
+
+pub depth_of_nested : depth nested ≡ 3
+depth_of_nested = refl
+
+pub same_item : same_ty item (PairTy Word (Pointer 0)) ≡ true
+same_item = refl
+
+pub other_item : same_ty item (PairTy Word (Pointer 1)) ≡ false
+other_item = refl

@@ -5,6 +5,12 @@ ghost use Rattle.tw_types.specs.FromCode.{ty_of};
 
 use crate::widths::Widths;
 
+/// The greatest depth of a type: pairs are one deeper than their deeper half, and all other types have depth 1.
+pub const TYPE_DEPTH_LIMIT: u32 = 64;
+
+/// The greatest extent of a type: its size, but `()` counts 1.
+pub const EXTENT_LIMIT: u32 = 4_096;
+
 /// The number of a target of pointers: its place in the table of targets, from 0 on.
 #[derive(Debug, Clone, Copy, PartialEq, Eq)]
 pub struct TargetId(pub u32);
@@ -25,7 +31,7 @@ pub enum Ty<'a> {
 }
 
 /// The number of bits of a type: the width of a word for `uint`, that of an address for a pointer, 1 for `bool`, 0 for `()`,
-/// and the sum of both halves for a pair. The type's extent, in which `()` counts 1, is at most 4,096.
+/// and the sum of both halves for a pair. The type's extent is at most [`EXTENT_LIMIT`].
 #[tactic(auto, using(crate::proofs::Extents::size_le_extent))]
 pub fn size_of(ty: &Ty, widths: Widths) -> u32
     requires within { extent widths (ty_of ty.now) ≤ 4096 }

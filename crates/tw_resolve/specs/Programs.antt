@@ -1,0 +1,97 @@
+-- Well-typed programs, and the refusals of the others.
+use Rattle.std.specs.Prelude.{◌≡◌, ◌⊎◌, ℕ, suc, not, if◌then◌else◌, List, [], ◌∷◌, ◌++◌, map, flat_map, Option, Some, None, is_some}
+use Rattle.std.specs.List.{AllByRecursion}
+use Rattle.std.specs.Str.{bytes_eq}
+use Rattle.tw_text.specs.declared.refusal.Refusal.{Refusal}
+use Rattle.tw_text.specs.declared.refusal.Rule.TheVariants as rule
+use Rattle.tw_text.specs.Refusals.{broken}
+use Rattle.tw_syntax.specs.Names.{NameTree}
+use Rattle.tw_syntax.specs.Programs.{ParamTree, FunTree, AliasTree, ProgramTree}
+use Rattle.tw_types.specs.Types.{Widths, Ty}
+use Rattle.tw_resolve.specs.Demands.{Demand, demand, first_broken}
+use Rattle.tw_resolve.specs.Declarations.{Name, is_one_of, aliases_of, funs_of}
+use Rattle.tw_resolve.specs.Denotes.{scope_of, AreTypes, IsRecursive}
+use Rattle.tw_resolve.specs.Names.{name_rules}
+use Rattle.tw_resolve.specs.Setting.{Setting, type_of, size_rules, part_rules, written_rules, fits}
+use Rattle.tw_resolve.specs.Expressions.{Variables}
+use Rattle.tw_resolve.specs.Statements.{variables_after, stmt_rules}
+
+-- an alias is not too deep and not too large, and neither are the targets in it
+abbrev pub alias_rules : Setting → AliasTree → List Demand
+alias_rules setting alias = size_rules setting alias.name.at (type_of setting alias.body) ++ part_rules setting alias.body
+
+-- parameters have different names, and their types keep the rules
+abbrev pub param_rules : Setting → List Name → List ParamTree → List Demand
+param_rules setting earlier [] = []
+param_rules setting earlier (param ∷ params) =
+    demand rule.DuplicateName param.name.at (not (is_one_of param.name.text earlier))
+    ∷ (written_rules setting param.ty ++ param_rules setting (param.name.text ∷ earlier) params)
+
+-- the variables where the body begins: the parameters
+abbrev pub param_variables : Setting → List ParamTree → Variables
+param_variables setting [] name = None
+param_variables setting (param ∷ params) name =
+    if bytes_eq param.name.text name then type_of setting param.ty else param_variables setting params name
+
+-- the returned name is a variable, no parameter, and has the type of the result
+abbrev pub return_rules : Setting → FunTree → Variables → List Demand
+return_rules setting fun variables =
+    demand rule.UnknownName fun.returned.at (is_some (variables fun.returned.text))
+    ∷ demand rule.BadReturn fun.returned.at (not (is_one_of fun.returned.text (map (λ param. param.name.text) fun.params)))
+    ∷ demand rule.TypeMismatch fun.returned.at (fits (type_of setting fun.result) (variables fun.returned.text))
+    ∷ []
+
+-- the variables at the end of a function
+abbrev pub end_variables : Setting → FunTree → Variables
+end_variables setting fun = variables_after setting (param_variables setting fun.params) fun.body
+
+-- the rules of the function of this number, in text order
+abbrev pub fun_rules : Setting → ℕ → FunTree → List Demand
+fun_rules setting number fun =
+    param_rules setting [] fun.params
+    ++ (written_rules setting fun.result
+    ++ (stmt_rules setting number fun (param_variables setting fun.params) fun.body
+    ++ return_rules setting fun (end_variables setting fun)))
+
+-- the rules of functions that are numbered from here on
+abbrev pub funs_rules : Setting → ℕ → List FunTree → List Demand
+funs_rules setting number [] = []
+funs_rules setting number (fun ∷ funs) = fun_rules setting number fun ++ funs_rules setting (suc number) funs
+
+-- the rules of types: those of all aliases, and then those of all functions
+abbrev pub type_rules : Setting → List Demand
+type_rules setting = flat_map (alias_rules setting) setting.scope.aliases ++ funs_rules setting 0 setting.funs
+
+-- the setting of a program, with the types of its declared names
+abbrev pub setting_of : Widths → ProgramTree → (Name → Option Ty) → Setting
+setting_of widths program types = record { widths = widths; scope = scope_of program; types = types; funs = funs_of program.decls }
+
+-- an alias that does not contain itself
+abbrev pub IsFinite : List AliasTree → AliasTree → Type 0
+IsFinite aliases alias = IsRecursive aliases alias.name.text → ⊥
+
+-- the program is well-typed: all rules of names hold, no alias contains itself, and all rules of types hold
+pub record IsTyped (widths : Widths) (program : ProgramTree) (types : Name → Option Ty) : Type 0 where
+  pub names : first_broken (name_rules program) ≡ None
+  pub finite : AllByRecursion (IsFinite (aliases_of program.decls)) (aliases_of program.decls)
+  pub are_types : AreTypes (scope_of program) types
+  pub typed : first_broken (type_rules (setting_of widths program types)) ≡ None
+
+-- the first of the aliases that contains itself is the one of this name
+abbrev pub IsFirstRecursive : List AliasTree → List AliasTree → NameTree → Type 0
+IsFirstRecursive aliases [] name = ⊥
+IsFirstRecursive aliases (alias ∷ rest) name =
+    ((alias.name ≡ name) × IsRecursive aliases alias.name.text) ⊎ (IsFinite aliases alias × IsFirstRecursive aliases rest name)
+
+-- the refusal of a program that is not well-typed: a rule of names is broken; or none is, and an alias contains itself; or none does,
+-- and a rule of types is broken
+pub data IsRefused (widths : Widths) (program : ProgramTree) : Refusal → Type 0 where
+  BreaksNames : {refusal : Refusal} → first_broken (name_rules program) ≡ Some refusal → IsRefused widths program refusal
+  BreaksFinite : (name : NameTree) → first_broken (name_rules program) ≡ None
+    → IsFirstRecursive (aliases_of program.decls) (aliases_of program.decls) name
+    → IsRefused widths program (broken rule.RecursiveType name.at)
+  BreaksTypes : {refusal : Refusal} (types : Name → Option Ty) → first_broken (name_rules program) ≡ None
+    → AllByRecursion (IsFinite (aliases_of program.decls)) (aliases_of program.decls)
+    → AreTypes (scope_of program) types
+    → first_broken (type_rules (setting_of widths program types)) ≡ Some refusal
+    → IsRefused widths program refusal
