@@ -92,10 +92,12 @@ targets_of program = fold with_target [] (flat_map decl_targets program.decls)
 
 -- `type t = (ptr<ptr<bool>>, ptr<bool>);` has the targets `ptr<bool>` and `bool`
 abbrev two_targets : ProgramTree
-two_targets = record { decls = AliasDecl (record {
-  name = record { text = codes "t"; at = place 1 6 };
-  body = PairType (place 1 10) (PtrType (place 1 11) (PtrType (place 1 15) (BoolType (place 1 19)))) (PtrType (place 1 27) (BoolType (place 1 31)));
-}) ∷ [] }
+two_targets = record {
+  decls = AliasDecl (record {
+    name = record { text = codes "t"; at = place 1 6 };
+    body = PairType (place 1 10) (PtrType (place 1 11) (PtrType (place 1 15) (BoolType (place 1 19)))) (PtrType (place 1 27) (BoolType (place 1 31)));
+  }) ∷ [];
+}
 
 pub targets_of_two : targets_of two_targets ≡ PtrType (place 1 15) (BoolType (place 1 19)) ∷ BoolType (place 1 19) ∷ []
 targets_of_two = refl

@@ -29,11 +29,11 @@ pub data Denotes (scope : Scope) : WrittenTree → Ty → Type 0 where
   DenotesWord : {at : Pos} → Denotes scope (UintType at) Word
   DenotesBoolean : {at : Pos} → Denotes scope (BoolType at) Boolean
   DenotesPair : {at : Pos} {first second : WrittenTree} {ty other : Ty}
-    → Denotes scope first ty → Denotes scope second other → Denotes scope (PairType at first second) (PairTy ty other)
+      → Denotes scope first ty → Denotes scope second other → Denotes scope (PairType at first second) (PairTy ty other)
   DenotesPointer : {at : Pos} {to : WrittenTree} (number : ℕ)
-    → names_declared scope.aliases to ≡ true → target_number scope.targets to ≡ Some number → Denotes scope (PtrType at to) (Pointer number)
+      → names_declared scope.aliases to ≡ true → target_number scope.targets to ≡ Some number → Denotes scope (PtrType at to) (Pointer number)
   DenotesNamed : {at : Pos} {name : Name} {ty : Ty} (body : WrittenTree)
-    → declared_as scope.aliases name ≡ Some body → Denotes scope body ty → Denotes scope (NamedType at name) ty
+      → declared_as scope.aliases name ≡ Some body → Denotes scope body ty → Denotes scope (NamedType at name) ty
 
 -- the types of the declared names
 abbrev pub AreTypes : Scope → (Name → Option Ty) → Type 0
@@ -48,9 +48,9 @@ names_outside_pointers other name = false
 -- one alias leads to another through written types outside pointers
 pub data Reaches (aliases : List AliasTree) : Name → Name → Type 0 where
   ReachesNext : {name next : Name} (body : WrittenTree)
-    → declared_as aliases name ≡ Some body → names_outside_pointers body next ≡ true → Reaches aliases name next
+      → declared_as aliases name ≡ Some body → names_outside_pointers body next ≡ true → Reaches aliases name next
   ReachesOn : {name next last : Name} (body : WrittenTree)
-    → declared_as aliases name ≡ Some body → names_outside_pointers body next ≡ true → Reaches aliases next last → Reaches aliases name last
+      → declared_as aliases name ≡ Some body → names_outside_pointers body next ≡ true → Reaches aliases next last → Reaches aliases name last
 
 -- the alias contains itself
 abbrev pub IsRecursive : List AliasTree → Name → Type 0

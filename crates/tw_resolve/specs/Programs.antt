@@ -88,10 +88,10 @@ IsFirstRecursive aliases (alias ∷ rest) name =
 pub data IsRefused (widths : Widths) (program : ProgramTree) : Refusal → Type 0 where
   BreaksNames : {refusal : Refusal} → first_broken (name_rules program) ≡ Some refusal → IsRefused widths program refusal
   BreaksFinite : (name : NameTree) → first_broken (name_rules program) ≡ None
-    → IsFirstRecursive (aliases_of program.decls) (aliases_of program.decls) name
-    → IsRefused widths program (broken rule.RecursiveType name.at)
+      → IsFirstRecursive (aliases_of program.decls) (aliases_of program.decls) name
+      → IsRefused widths program (broken rule.RecursiveType name.at)
   BreaksTypes : {refusal : Refusal} (types : Name → Option Ty) → first_broken (name_rules program) ≡ None
-    → AllByRecursion (IsFinite (aliases_of program.decls)) (aliases_of program.decls)
-    → AreTypes (scope_of program) types
-    → first_broken (type_rules (setting_of widths program types)) ≡ Some refusal
-    → IsRefused widths program refusal
+      → AllByRecursion (IsFinite (aliases_of program.decls)) (aliases_of program.decls)
+      → AreTypes (scope_of program) types
+      → first_broken (type_rules (setting_of widths program types)) ≡ Some refusal
+      → IsRefused widths program refusal
