@@ -45,7 +45,7 @@ pair_parts (Some one) None ty is = absurd (cc is)
 
 -- the type of a pointer is one that it denotes
 pointer_denotes : (scope : Scope) (at : Pos) (to : WrittenTree) (ty : Ty) (known : Bool) (number : Option ℕ)
-    → names_declared scope.aliases to ≡ known → target_number scope.targets to ≡ number
+    → names_declared scope.declared to ≡ known → target_number scope.targets to ≡ number
     → (if known then option_map Pointer number else None) ≡ Some ty → Denotes scope (PtrType at to) ty
 pointer_denotes scope at to ty true (Some number) known is same = moved (DenotesPointer number known is) same
 pointer_denotes scope at to ty true None known is same = absurd (cc same)
@@ -63,7 +63,7 @@ type_of-denotes setting are (PairType at first second) ty is =
     let one = type_of-denotes setting are first parts.0 parts.2 in
     let two = type_of-denotes setting are second parts.1 parts.3 in
     subst (Denotes setting.scope (PairType at first second)) (sym parts.4) (DenotesPair one two)
-type_of-denotes setting are (PtrType at to) ty is = pointer_denotes setting.scope at to ty (names_declared setting.scope.aliases to) (target_number setting.scope.targets to) refl refl is
+type_of-denotes setting are (PtrType at to) ty is = pointer_denotes setting.scope at to ty (names_declared setting.scope.declared to) (target_number setting.scope.targets to) refl refl is
 
 -- the type that a written type denotes is the one that the table gives
 pub denotes-type_of : (setting : Setting) → AreTypes setting.scope setting.types → {written : WrittenTree} {ty : Ty}
@@ -89,20 +89,20 @@ one_table scope types other are are2 = fun_ext (λ name. same_options (types nam
     (λ ty is. (are first_place name ty).1 ((are2 first_place name ty).0 is)))
 
 -- one name has one declaration
-body_of_same : (aliases : List AliasTree) (name other : Name) (body last : WrittenTree) → bytes_eq name other ≡ true
-    → declared_as aliases name ≡ Some body → declared_as aliases other ≡ Some last → last ≡ body
-body_of_same aliases name other body last same is is2 =
+body_of_same : (declared : Name → Option WrittenTree) (name other : Name) (body last : WrittenTree) → bytes_eq name other ≡ true
+    → declared name ≡ Some body → declared other ≡ Some last → last ≡ body
+body_of_same declared name other body last same is is2 =
     let equal : name ≡ other = (bytes_eq-Decides name other).0 same in
     cc (equal, is, is2)
 
 -- one alias leads to a third by way of a second
-reaches_by : {aliases : List AliasTree} {name middle last : Name} → Reaches aliases name middle → Reaches aliases middle last → Reaches aliases name last
+reaches_by : {declared : Name → Option WrittenTree} {name middle last : Name} → Reaches declared name middle → Reaches declared middle last → Reaches declared name last
 reaches_by (ReachesNext body is names) on = ReachesOn body is names on
 reaches_by (ReachesOn body is names first) on = ReachesOn body is names (reaches_by first on)
 
 -- no alias in a written type that denotes a type contains itself
 pub never_itself : {scope : Scope} {written : WrittenTree} {ty : Ty} → Denotes scope written ty → (name : Name)
-    → names_outside_pointers written name ≡ true → Reaches scope.aliases name name → ⊥
+    → names_outside_pointers written name ≡ true → Reaches scope.declared name name → ⊥
 never_itself DenotesUnit name is reaches = absurd (cc is)
 never_itself DenotesWord name is reaches = absurd (cc is)
 never_itself DenotesBoolean name is reaches = absurd (cc is)
@@ -110,7 +110,7 @@ never_itself (DenotesPointer number known at) name is reaches = absurd (cc is)
 never_itself (DenotesPair {at} {first} {second} one two) name is reaches =
     ⊎_elim (λ left. never_itself one name left reaches) (λ right. never_itself two name right reaches)
     (or_cases (names_outside_pointers first name) (names_outside_pointers second name) is)
-never_itself {scope} (DenotesNamed {name = other} body declared d) name is (ReachesNext body2 declared2 names) =
-    never_itself d name (rw (← body_of_same scope.aliases other name body body2 is declared declared2) names) (ReachesNext body2 declared2 names)
-never_itself {scope} (DenotesNamed {name = other} body declared d) name is (ReachesOn {next} body2 declared2 names on) =
-    never_itself d next (rw (← body_of_same scope.aliases other name body body2 is declared declared2) names) (reaches_by on (ReachesNext body2 declared2 names))
+never_itself {scope} (DenotesNamed {name = other} body is_body d) name is (ReachesNext body2 is_body2 names) =
+    never_itself d name (rw (← body_of_same scope.declared other name body body2 is is_body is_body2) names) (ReachesNext body2 is_body2 names)
+never_itself {scope} (DenotesNamed {name = other} body is_body d) name is (ReachesOn {next} body2 is_body2 names on) =
+    never_itself d next (rw (← body_of_same scope.declared other name body body2 is is_body is_body2) names) (reaches_by on (ReachesNext body2 is_body2 names))

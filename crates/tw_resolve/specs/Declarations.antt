@@ -14,7 +14,7 @@ Name = List ℕ
 -- whether a name is one of these
 abbrev pub is_one_of : Name → List Name → Bool
 is_one_of name [] = false
-is_one_of name (first ∷ rest) = bytes_eq first name || is_one_of name rest
+is_one_of name (first ∷ rest) = bytes_eq name first || is_one_of name rest
 
 -- the aliases, in order
 abbrev pub aliases_of : List DeclTree → List AliasTree
@@ -31,11 +31,11 @@ funs_of (FunDecl fun ∷ decls) = fun ∷ funs_of decls
 -- the type that an alias is declared as
 abbrev pub declared_as : List AliasTree → Name → Option WrittenTree
 declared_as [] name = None
-declared_as (alias ∷ aliases) name = if bytes_eq alias.name.text name then Some alias.body else declared_as aliases name
+declared_as (alias ∷ aliases) name = if bytes_eq name alias.name.text then Some alias.body else declared_as aliases name
 
 -- the number of a function: its position among the functions
 abbrev pub number_of : List FunTree → Name → Option ℕ
-number_of funs name = position (λ fun. bytes_eq fun.name.text name) funs
+number_of funs name = position (λ fun. bytes_eq name fun.name.text) funs
 
 -- the targets of the pointers in a written type; a target comes before those in it
 abbrev pub targets_in : WrittenTree → List WrittenTree
@@ -80,7 +80,7 @@ decl_targets (FunDecl fun) = flat_map (λ param. targets_in param.ty) fun.params
 
 -- the position of the target that is written as this one
 abbrev pub target_number : List WrittenTree → WrittenTree → Option ℕ
-target_number targets to = position (λ target. bytes_eq (type_print target) (type_print to)) targets
+target_number targets to = position (λ target. bytes_eq (type_print to) (type_print target)) targets
 
 -- the targets, with one more if no other is written as it is
 abbrev pub with_target : List WrittenTree → WrittenTree → List WrittenTree

@@ -6,3 +6,4 @@ pub mod Names
 pub mod Expressions
 pub mod Statements
 pub mod Programs
+pub mod Tables

@@ -1,5 +1,5 @@
 -- The rules of declared names: none is declared twice, and each one that a declaration refers to is there.
-use Rattle.std.specs.Prelude.{not, List, [], ◌∷◌, ◌++◌, map, flat_map, is_some}
+use Rattle.std.specs.Prelude.{Option, not, List, [], ◌∷◌, ◌++◌, map, flat_map, is_some}
 use Rattle.tw_text.specs.declared.refusal.Rule.TheVariants as rule
 use Rattle.tw_syntax.specs.Names.{NameTree}
 use Rattle.tw_syntax.specs.Programs.{AliasTree, ProgramTree}
@@ -14,11 +14,11 @@ different_rules earlier (name ∷ names) =
     demand rule.DuplicateName name.at (not (is_one_of name.text earlier)) ∷ different_rules (name.text ∷ earlier) names
 
 -- each name in a written type is declared
-abbrev pub declared_rules : List AliasTree → WrittenTree → List Demand
-declared_rules aliases (PairType at first second) = declared_rules aliases first ++ declared_rules aliases second
-declared_rules aliases (PtrType at to) = declared_rules aliases to
-declared_rules aliases (NamedType at name) = demand rule.UnknownName at (is_some (declared_as aliases name)) ∷ []
-declared_rules aliases other = []
+abbrev pub declared_rules : (Name → Option WrittenTree) → WrittenTree → List Demand
+declared_rules declared (PairType at first second) = declared_rules declared first ++ declared_rules declared second
+declared_rules declared (PtrType at to) = declared_rules declared to
+declared_rules declared (NamedType at name) = demand rule.UnknownName at (is_some (declared name)) ∷ []
+declared_rules declared other = []
 
 -- the names of aliases are different, then those of functions, and then the names in the aliases are declared
 abbrev pub name_rules : ProgramTree → List Demand
@@ -26,4 +26,4 @@ name_rules program =
     let aliases = aliases_of program.decls in
     different_rules [] (map (λ alias. alias.name) aliases)
     ++ (different_rules [] (map (λ fun. fun.name) (funs_of program.decls))
-    ++ flat_map (λ alias. declared_rules aliases alias.body) aliases)
+    ++ flat_map (λ alias. declared_rules (declared_as aliases) alias.body) aliases)

@@ -7,9 +7,10 @@ use Rattle.tw_text.specs.declared.refusal.Rule.TheVariants as rule
 use Rattle.tw_text.specs.Refusals.{broken}
 use Rattle.tw_syntax.specs.Names.{NameTree}
 use Rattle.tw_syntax.specs.Programs.{ParamTree, FunTree, AliasTree, ProgramTree}
+use Rattle.tw_syntax.specs.Types.{WrittenTree}
 use Rattle.tw_types.specs.Types.{Widths, Ty}
 use Rattle.tw_resolve.specs.Demands.{Demand, demand, first_broken}
-use Rattle.tw_resolve.specs.Declarations.{Name, is_one_of, aliases_of, funs_of}
+use Rattle.tw_resolve.specs.Declarations.{Name, is_one_of, aliases_of, funs_of, declared_as}
 use Rattle.tw_resolve.specs.Denotes.{scope_of, AreTypes, IsRecursive}
 use Rattle.tw_resolve.specs.Names.{name_rules}
 use Rattle.tw_resolve.specs.Setting.{Setting, type_of, size_rules, part_rules, written_rules, fits}
@@ -31,7 +32,7 @@ param_rules setting earlier (param ∷ params) =
 abbrev pub param_variables : Setting → List ParamTree → Variables
 param_variables setting [] name = None
 param_variables setting (param ∷ params) name =
-    if bytes_eq param.name.text name then type_of setting param.ty else param_variables setting params name
+    if bytes_eq name param.name.text then type_of setting param.ty else param_variables setting params name
 
 -- the returned name is a variable, no parameter, and has the type of the result
 abbrev pub return_rules : Setting → FunTree → Variables → List Demand
@@ -59,39 +60,39 @@ funs_rules setting number [] = []
 funs_rules setting number (fun ∷ funs) = fun_rules setting number fun ++ funs_rules setting (suc number) funs
 
 -- the rules of types: those of all aliases, and then those of all functions
-abbrev pub type_rules : Setting → List Demand
-type_rules setting = flat_map (alias_rules setting) setting.scope.aliases ++ funs_rules setting 0 setting.funs
+abbrev pub type_rules : Setting → List AliasTree → List Demand
+type_rules setting aliases = flat_map (alias_rules setting) aliases ++ funs_rules setting 0 setting.funs
 
 -- the setting of a program, with the types of its declared names
 abbrev pub setting_of : Widths → ProgramTree → (Name → Option Ty) → Setting
 setting_of widths program types = record { widths = widths; scope = scope_of program; types = types; funs = funs_of program.decls }
 
 -- an alias that does not contain itself
-abbrev pub IsFinite : List AliasTree → AliasTree → Type 0
-IsFinite aliases alias = IsRecursive aliases alias.name.text → ⊥
+abbrev pub IsFinite : (Name → Option WrittenTree) → AliasTree → Type 0
+IsFinite declared alias = IsRecursive declared alias.name.text → ⊥
 
 -- the program is well-typed: all rules of names hold, no alias contains itself, and all rules of types hold
 pub record IsTyped (widths : Widths) (program : ProgramTree) (types : Name → Option Ty) : Type 0 where
   pub names : first_broken (name_rules program) ≡ None
-  pub finite : AllByRecursion (IsFinite (aliases_of program.decls)) (aliases_of program.decls)
+  pub finite : AllByRecursion (IsFinite (declared_as (aliases_of program.decls))) (aliases_of program.decls)
   pub are_types : AreTypes (scope_of program) types
-  pub typed : first_broken (type_rules (setting_of widths program types)) ≡ None
+  pub typed : first_broken (type_rules (setting_of widths program types) (aliases_of program.decls)) ≡ None
 
 -- the first of the aliases that contains itself is the one of this name
-abbrev pub IsFirstRecursive : List AliasTree → List AliasTree → NameTree → Type 0
-IsFirstRecursive aliases [] name = ⊥
-IsFirstRecursive aliases (alias ∷ rest) name =
-    ((alias.name ≡ name) × IsRecursive aliases alias.name.text) ⊎ (IsFinite aliases alias × IsFirstRecursive aliases rest name)
+abbrev pub IsFirstRecursive : (Name → Option WrittenTree) → List AliasTree → NameTree → Type 0
+IsFirstRecursive declared [] name = ⊥
+IsFirstRecursive declared (alias ∷ rest) name =
+    ((alias.name ≡ name) × IsRecursive declared alias.name.text) ⊎ (IsFinite declared alias × IsFirstRecursive declared rest name)
 
 -- the refusal of a program that is not well-typed: a rule of names is broken; or none is, and an alias contains itself; or none does,
 -- and a rule of types is broken
 pub data IsRefused (widths : Widths) (program : ProgramTree) : Refusal → Type 0 where
   BreaksNames : {refusal : Refusal} → first_broken (name_rules program) ≡ Some refusal → IsRefused widths program refusal
   BreaksFinite : (name : NameTree) → first_broken (name_rules program) ≡ None
-      → IsFirstRecursive (aliases_of program.decls) (aliases_of program.decls) name
+      → IsFirstRecursive (declared_as (aliases_of program.decls)) (aliases_of program.decls) name
       → IsRefused widths program (broken rule.RecursiveType name.at)
   BreaksTypes : {refusal : Refusal} (types : Name → Option Ty) → first_broken (name_rules program) ≡ None
-      → AllByRecursion (IsFinite (aliases_of program.decls)) (aliases_of program.decls)
+      → AllByRecursion (IsFinite (declared_as (aliases_of program.decls))) (aliases_of program.decls)
       → AreTypes (scope_of program) types
-      → first_broken (type_rules (setting_of widths program types)) ≡ Some refusal
+      → first_broken (type_rules (setting_of widths program types) (aliases_of program.decls)) ≡ Some refusal
       → IsRefused widths program refusal

@@ -7,7 +7,7 @@ use Rattle.tw_syntax.specs.Types.{WrittenTree, UnitType, UintType, BoolType, Pai
 use Rattle.tw_types.specs.Types.{Widths, Ty, UnitTy, Word, Boolean, Pointer, PairTy, depth, extent, same_ty}
 use Rattle.tw_types.specs.declared.types.TheConstants.{TYPE_DEPTH_LIMIT, EXTENT_LIMIT}
 use Rattle.tw_resolve.specs.Demands.{Demand, demand, demand_within}
-use Rattle.tw_resolve.specs.Declarations.{Name, declared_as, target_number}
+use Rattle.tw_resolve.specs.Declarations.{Name, target_number}
 use Rattle.tw_resolve.specs.Denotes.{Scope, names_declared}
 
 -- the widths, the declared names with their types, and the functions
@@ -24,7 +24,7 @@ pair_of first second = None
 
 -- the type of a pointer to a target; none if a name in the target is not declared
 abbrev pub pointer_to : Scope → WrittenTree → Option Ty
-pointer_to scope to = if names_declared scope.aliases to then option_map Pointer (target_number scope.targets to) else None
+pointer_to scope to = if names_declared scope.declared to then option_map Pointer (target_number scope.targets to) else None
 
 -- the type of a written type
 abbrev pub type_of : Setting → WrittenTree → Option Ty
@@ -56,7 +56,7 @@ size_rules setting at (Some ty) =
 abbrev pub part_rules : Setting → WrittenTree → List Demand
 part_rules setting (PairType at first second) = part_rules setting first ++ part_rules setting second
 part_rules setting (PtrType at to) = size_rules setting (written_place to) (type_of setting to) ++ part_rules setting to
-part_rules setting (NamedType at name) = demand rule.UnknownName at (is_some (declared_as setting.scope.aliases name)) ∷ []
+part_rules setting (NamedType at name) = demand rule.UnknownName at (is_some (setting.scope.declared name)) ∷ []
 part_rules setting other = []
 
 -- the rules of a written type: its own size, and then its parts

@@ -14,7 +14,7 @@ use Rattle.tw_resolve.specs.Expressions.{Variables, path_type, path_rules, rhs_r
 -- the variables with one more; one that is there keeps its type
 abbrev pub with_variable : Variables → Name → Option Ty → Variables
 with_variable variables name ty other =
-    if is_some (variables name) then variables other else (if bytes_eq name other then ty else variables other)
+    if is_some (variables name) then variables other else (if bytes_eq other name then ty else variables other)
 
 -- the variables after a statement, from those before it: every assignment declares its target, in text order
 abbrev pub variables_after : Setting → Variables → StmtTree → Variables

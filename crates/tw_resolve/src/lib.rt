@@ -3,5 +3,8 @@
 #![tactic(auto)]
 
 mod demand;
+mod sizes;
+mod tables;
+mod written;
 
 pub use demand::need;
