@@ -6,4 +6,5 @@ pub mod Names
 pub mod Expressions
 pub mod Statements
 pub mod Programs
+pub mod Entries
 pub mod Tables

@@ -1,49 +1,13 @@
--- What the tables of the code hold: the setting of a program.
-use denote.Bor.{Bor}
-use Rattle.std.specs.Prelude.{◌≡◌, ℕ, List, map, Option, option_map, refl}
-use Rattle.std.specs.Map.{lookup}
-use Rattle.std.specs.Str.{bytes_eq}
-use Rattle.tw_syntax.specs.declared.program.Fun.{Fun}
-use Rattle.tw_syntax.specs.declared.written.Written.{Written}
-use Rattle.tw_syntax.specs.Programs.{FunTree, fun_tree}
-use Rattle.tw_syntax.specs.Types.{WrittenTree, written_tree}
-use Rattle.tw_types.specs.Types.{Widths, Ty, depth, extent}
-use Rattle.tw_types.specs.FromCode.{ty_of}
-use Rattle.tw_resolve.specs.declared.sizes.SizedTy.{SizedTy}
+-- The setting that the tables of the code are.
 use Rattle.tw_resolve.specs.declared.tables.Tables.{Tables}
-use Rattle.tw_resolve.specs.Declarations.{Name}
-use Rattle.tw_resolve.specs.Setting.{Setting, reported}
-
--- what a table by names holds of a name
-abbrev pub found : {V : Type 0} → List (Bor (List ℕ) × V) → Name → Option V
-found entries name = lookup (λ key. bytes_eq name key.now) entries
-
--- what each alias is declared as
-abbrev pub declared_in : List (Bor (List ℕ) × Bor Written) → Name → Option WrittenTree
-declared_in entries name = option_map (λ written. written_tree written.now) (found entries name)
-
--- the targets of pointers
-abbrev pub targets_in_table : List (Bor (List ℕ) × Bor Written) → List WrittenTree
-targets_in_table entries = map (λ entry. written_tree entry.1.now) entries
-
--- the types of the declared names
-abbrev pub types_in : List (Bor (List ℕ) × SizedTy) → Name → Option Ty
-types_in entries name = option_map (λ sized. ty_of sized.ty) (found entries name)
-
--- the functions
-abbrev pub funs_in : List (Bor (List ℕ) × Bor Fun) → List FunTree
-funs_in entries = map (λ entry. fun_tree entry.1.now) entries
+use Rattle.tw_resolve.specs.Entries.{declared_in, targets_in, types_in, funs_in}
+use Rattle.tw_resolve.specs.Setting.{Setting}
 
 -- the setting that the tables are
 abbrev pub setting_in : Tables → Setting
 setting_in tables = record {
-  widths = tables.widths;
-  scope = record { declared = declared_in tables.aliases.entries; targets = targets_in_table tables.targets.entries };
-  types = types_in tables.types.entries;
-  funs = funs_in tables.funs.entries;
+  widths = tables.types.widths;
+  scope = record { declared = declared_in tables.aliases.entries; targets = targets_in tables.targets.table.entries };
+  types = types_in tables.types.table.entries;
+  funs = funs_in tables.funs.table.entries;
 }
-
--- a type has these sizes, as far as a refusal can report them
-pub record IsSized (widths : Widths) (sized : SizedTy) : Type 0 where
-  pub depth : sized.depth ≡ reported (depth (ty_of sized.ty))
-  pub extent : sized.extent ≡ reported (extent widths (ty_of sized.ty))

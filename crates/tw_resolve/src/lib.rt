@@ -3,8 +3,11 @@
 #![tactic(auto)]
 
 mod demand;
+mod fun_table;
 mod sizes;
 mod tables;
+mod target_table;
+mod type_table;
 mod written;
 
 pub use demand::need;

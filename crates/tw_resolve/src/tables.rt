@@ -1,15 +1,15 @@
 //! The declared names of a program.
-use crate::sizes::SizedTy;
+use crate::fun_table::FunTable;
+use crate::target_table::TargetTable;
+use crate::type_table::TypeTable;
 use indexmap::IndexMap;
-use tw_syntax::{Fun, Written};
-use tw_types::Widths;
+use tw_syntax::Written;
 
-/// The declared names of a program, and the targets of its pointers by their printed form. Each table is in text order.
+/// The aliases, the targets of pointers, the types of the aliases, and the functions of a program, each in text order.
 #[derive(Drop)]
 pub struct Tables<'a> {
-    pub widths: Widths,
     pub aliases: IndexMap<&'a str, &'a Written<'a>>,
-    pub targets: IndexMap<&'a str, &'a Written<'a>>,
-    pub types: IndexMap<&'a str, SizedTy<'a>>,
-    pub funs: IndexMap<&'a str, &'a Fun<'a>>,
+    pub targets: TargetTable<'a>,
+    pub types: TypeTable<'a>,
+    pub funs: FunTable<'a>,
 }

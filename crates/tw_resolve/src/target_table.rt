@@ -1,0 +1,68 @@
+//! The targets of the pointers of a program.
+ghost use Rattle.std.proofs.Props.{props};
+ghost use Rattle.std.specs.List.{AllByRecursion};
+ghost use Rattle.std.specs.Prelude.{◌≡◌, ◌++◌, ◌≤◌, [], length, option_map, IfOk, OnOk, OnErr, string_bytes};
+ghost use Rattle.tw_syntax.specs.Types.{type_print, written_tree};
+ghost use Rattle.tw_resolve.specs.Declarations.{target_number, with_target};
+ghost use Rattle.tw_resolve.specs.Entries.{IsKeyed, targets_in};
+
+use indexmap::IndexMap;
+use std::alloc::{AllocError, Global};
+use tw_syntax::{Written, WrittenKind};
+use tw_text::{Arena, Fault};
+use tw_types::TargetId;
+
+/// The targets of pointers, each by its printed form, in the order in which they were first seen.
+#[derive(Drop)]
+pub struct TargetTable<'a> {
+    table: IndexMap<&'a str, &'a Written<'a>>,
+    ghost keyed: { AllByRecursion IsKeyed table.entries } by { Prim.hlevel props },
+    ghost few: { length table.entries ≤ 4294967295 },
+}
+
+impl<'a> TargetTable<'a> {
+    /// No targets.
+    pub fn new(alloc: Global) -> TargetTable<'a>
+        ensures { targets_in result.table.entries ≡ [] }
+    {
+        TargetTable {
+            table: IndexMap::new(alloc),
+        }
+    }
+
+    /// The number of the target that is written as this one.
+    pub fn number_of(&self, alloc: Global, to: &Written) -> Result<Option<TargetId>, Fault>
+        ensures { IfOk result (λ number. option_map (λ id. id.0) number ≡ target_number (targets_in self.now.table.entries) (written_tree to.now)) }
+    {
+        let mut text = String::new(alloc);
+        print_type(&mut text, to)?;
+        match self.table.get_index_of(text.as_str()) {
+            Some(place) => Ok(Some(TargetId(place as u32))),
+            None => Ok(None),
+        }
+    }
+}
+
+/// Appends the printed form of a written type.
+fn print_type(text: &mut String, written: &Written) -> Result<(), AllocError>
+    ensures { OnOk result (string_bytes text.new ≡ string_bytes text.old ++ type_print (written_tree written.now)) }
+{
+    match &written.kind {
+        WrittenKind::Unit => text.push_str("()"),
+        WrittenKind::Uint => text.push_str("uint"),
+        WrittenKind::Bool => text.push_str("bool"),
+        WrittenKind::Pair(first, second) => {
+            text.push_str("(")?;
+            print_type(text, first)?;
+            text.push_str(", ")?;
+            print_type(text, second)?;
+            text.push_str(")")
+        }
+        WrittenKind::Ptr(to) => {
+            text.push_str("ptr<")?;
+            print_type(text, to)?;
+            text.push_str(">")
+        }
+        WrittenKind::Named(name) => text.push_str(name),
+    }
+}

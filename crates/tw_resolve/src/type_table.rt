@@ -1,0 +1,38 @@
+//! The types of the declared names.
+ghost use Rattle.std.proofs.Props.{props};
+ghost use Rattle.std.specs.List.{AllByRecursion};
+ghost use Rattle.std.specs.Prelude.{◌≡◌, None, Some, option_map, IfSome, OnOk};
+ghost use Rattle.std.specs.Str.{bytes_eq};
+ghost use Rattle.tw_types.specs.FromCode.{ty_of};
+ghost use Rattle.tw_resolve.specs.Entries.{IsSized, types_in};
+
+use crate::sizes::SizedTy;
+use indexmap::IndexMap;
+use std::alloc::Global;
+use tw_text::Fault;
+use tw_types::Widths;
+
+/// The types of declared names, with their sizes at these widths.
+#[derive(Drop)]
+pub struct TypeTable<'a> {
+    widths: Widths,
+    table: IndexMap<&'a str, SizedTy<'a>>,
+    ghost sized: { AllByRecursion (λ entry. IsSized widths entry.1) table.entries } by { Prim.hlevel props },
+}
+
+impl<'a> TypeTable<'a> {
+    /// The widths of words and addresses.
+    pub fn widths(&self) -> Widths
+        ensures { result ≡ self.now.widths }
+    {
+        self.widths
+    }
+
+    /// The type of a declared name.
+    pub fn get(&self, name: &str) -> Option<SizedTy<'a>>
+        ensures found { option_map (λ sized. ty_of sized.ty) result ≡ types_in self.now.table.entries name.now }
+        ensures sizes { IfSome result (IsSized self.now.widths) }
+    {
+        self.table.get(name).copied()
+    }
+}
