@@ -1,0 +1,5 @@
+pub mod NameSets
+pub mod Reversal
+pub mod Ends
+pub mod Undoing
+pub mod Mentions
