@@ -3,3 +3,5 @@ pub mod Reversal
 pub mod Ends
 pub mod Undoing
 pub mod Mentions
+pub mod Agreeing
+pub mod Moving
