@@ -18,7 +18,7 @@ AreLive live names = AllByRecursion (λ name. live name.text ≡ true) names
 pub target_is_live : {held : Names} {target : NameTree} {rhs : RhsTree} {bare full : Names} → Assigns held target rhs bare full → full target.text ≡ true
 target_is_live {target = target} {bare = bare} a = ap (λ (live : Names). live target.text) a.after ∙ with_name-same bare target.text true
 
-operands_live : {held : Names} {target : NameTree} {rhs : RhsTree} {bare full : Names} → Assigns held target rhs bare full → AreLive bare (rhs_names rhs)
+pub operands_live : {held : Names} {target : NameTree} {rhs : RhsTree} {bare full : Names} → Assigns held target rhs bare full → AreLive bare (rhs_names rhs)
 operands_live {held} {target} {rhs} {bare} a =
     each_weaker (IsOperand held bare target (writes rhs)) (λ name. bare name.text ≡ true) (λ name operand. operand.live) (rhs_names rhs) a.operands
 

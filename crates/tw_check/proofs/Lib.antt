@@ -5,3 +5,5 @@ pub mod Undoing
 pub mod Mentions
 pub mod Agreeing
 pub mod Moving
+pub mod Keeping
+pub mod RightExactly

@@ -1,5 +1,5 @@
 -- A statement changes the liveness of no name but those that it mentions, and of each by itself.
-use Rattle.std.proofs.Common.{◌≡◌, refl, ap, sym, ◌∙◌, ℕ, Bool, true, false, if◌then◌else◌, List, bytes_eq}
+use Rattle.std.proofs.Common.{◌≡◌, refl, ap, sym, ◌∙◌, ℕ, Bool, true, false, if◌then◌else◌, List, ◌++◌, bytes_eq}
 use mathlib.Core.Bool.{beq}
 use Rattle.std.proofs.lemmas.Bool.{or_parts}
 use Rattle.tw_resolve.proofs.Each.{each_weaker}
@@ -7,7 +7,7 @@ use Rattle.tw_syntax.specs.Statements.{StmtTree, Nothing, Then, Else, LetStmt, S
 use Rattle.tw_check.specs.Names.{Names, is_one_of}
 use Rattle.tw_check.specs.Liveness.{rhs_names, texts, names_of, live_after}
 use Rattle.tw_check.specs.Right.{Right}
-use Rattle.tw_check.proofs.NameSets.{Agree, off-append, with_name-other}
+use Rattle.tw_check.proofs.NameSets.{Agree, same_if_agree, off-append, with_name-other}
 use Rattle.tw_check.proofs.Ends.{right_ends}
 
 pub others_stay : (forward : Bool) (s : StmtTree) (live : Names) (name : List ℕ) → is_one_of name (names_of s) ≡ false → live_after forward s live name ≡ live name
@@ -56,6 +56,14 @@ live_after-at forward (WithStmt at setup work) x y name same =
     (live_after-at forward work ready_x ready_y name (live_after-at true setup x y name same))
 live_after-at forward (BlockStmt at body) x y name same = live_after-at forward body x y name same
 live_after-at forward (SkipStmt at) x y name same = same
+
+-- two branches that agree on their names end alike
+pub branches_alike : (first other : StmtTree) (live : Names) → Agree (names_of first ++ names_of other) (live_after true first live) (live_after true other live) → live_after true first live ≡ live_after true other live
+branches_alike first other live agree =
+    same_if_agree (names_of first ++ names_of other) (live_after true first live) (live_after true other live) agree
+    (λ name off.
+    let parts = off-append name (names_of first) (names_of other) off in
+    others_stay true first live name parts.0 ∙ sym (others_stay true other live name parts.1))
 
 -- the same for a right statement
 pub right_stays : {held : Names} {s : StmtTree} {before after : Names} → Right held s before after → (name : List ℕ) → is_one_of name (names_of s) ≡ false → after name ≡ before name

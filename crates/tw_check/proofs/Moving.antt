@@ -8,10 +8,10 @@ use Rattle.tw_check.specs.Names.{Names, with_name}
 use Rattle.tw_check.specs.Liveness.{rhs_names, texts, names_of, live_after}
 use Rattle.tw_check.specs.Reverse.{reverse_of}
 use Rattle.tw_check.specs.Right.{IsOperand, Right, writes, RightNothing, RightThen, RightLet, RightUnlet, RightSwap, RightMemSwap, RightIf, RightIfElse, RightWith, RightBlock, RightSkip}
-use Rattle.tw_check.proofs.NameSets.{Agree, same_if_agree, off-append, with_name-same, with_name-other, with_name-back}
+use Rattle.tw_check.proofs.NameSets.{Agree, with_name-same, with_name-other, with_name-back}
 use Rattle.tw_check.proofs.Reversal.{live_after-reverse_of, names_of-reverse_of}
 use Rattle.tw_check.proofs.Ends.{right_ends}
-use Rattle.tw_check.proofs.Mentions.{others_stay, live_after-at, agree_after}
+use Rattle.tw_check.proofs.Mentions.{branches_alike, live_after-at, agree_after}
 use Rattle.tw_check.proofs.Agreeing.{AreLive, target_is_live, operands_live_after}
 
 operands_moved : (held x z : Names) (target : NameTree) (written : Bool) (names : List NameTree) → AllByRecursion (IsOperand held x target written) names → Agree (texts names) x z → AllByRecursion (IsOperand held z target written) names
@@ -33,17 +33,14 @@ unlet_operands_moved held y x z target written (name ∷ names) operands live ag
       unlet_operands_moved held y x z target written names operands.1 live.1 agree.1,
     )
 
-branches_end_alike : {held held2 : Names} {first other : StmtTree} {x y : Names} → Right held first x y → Right held2 other x y → (z : Names) → Agree (names_of first ++ names_of other) x z → live_after true other z ≡ live_after true first z
+branches_end_alike : {held held2 : Names} {first other : StmtTree} {x y : Names} → Right held first x y → Right held2 other x y → (z : Names) → Agree (names_of first ++ names_of other) x z → live_after true first z ≡ live_after true other z
 branches_end_alike {first = first} {other = other} {x = x} a b z agree =
-    same_if_agree (names_of first ++ names_of other) (live_after true other z) (live_after true first z)
-    (each_weaker (λ name. x name ≡ z name) (λ name. live_after true other z name ≡ live_after true first z name)
+    branches_alike first other z
+    (each_weaker (λ name. x name ≡ z name) (λ name. live_after true first z name ≡ live_after true other z name)
     (λ name same.
-    sym (live_after-at true other x z name same)
-    ∙ ap (λ (live : Names). live name) (right_ends b ∙ sym (right_ends a))
-    ∙ live_after-at true first x z name same) (names_of first ++ names_of other) agree)
-    (λ name off.
-    let parts = off-append name (names_of first) (names_of other) off in
-    others_stay true other z name parts.1 ∙ sym (others_stay true first z name parts.0))
+    sym (live_after-at true first x z name same)
+    ∙ ap (λ (live : Names). live name) (right_ends a ∙ sym (right_ends b))
+    ∙ live_after-at true other x z name same) (names_of first ++ names_of other) agree)
 
 pub right_moved : {held : Names} {s : StmtTree} {x y : Names} → Right held s x y → (z : Names) → Agree (names_of s) x z → Right held s z (live_after true s z)
 right_moved RightNothing z agree = RightNothing
@@ -74,7 +71,7 @@ right_moved {x = x} (RightIfElse {held = held} {cond = cond} {first = first} {ot
     let P = λ (name : List ℕ). x name ≡ z name in
     RightIfElse (sym agree.0 ∙ live)
     (right_moved a z (each_first P (names_of first) (names_of other) agree.1))
-    (subst (λ end. Right (with_name held cond.root.text true) other z end) (branches_end_alike a b z agree.1)
+    (subst (λ end. Right (with_name held cond.root.text true) other z end) (sym (branches_end_alike a b z agree.1))
     (right_moved b z (each_rest P (names_of first) (names_of other) agree.1)))
 right_moved {x = x} (RightWith {held = held} {setup = setup} {work = work} ready done a b c) z agree =
     let P = λ (name : List ℕ). x name ≡ z name in

@@ -5,9 +5,12 @@ use Rattle.std.specs.List.{AllByRecursion}
 use Rattle.tw_text.specs.declared.refusal.Refusal.{Refusal}
 use Rattle.tw_resolve.specs.Demands.{Demand, all_hold, first_broken}
 
+abbrev pub Holds : Demand → Type 0
+Holds demand = demand.holds ≡ true
+
 -- each demand holds
 abbrev pub EachHolds : List Demand → Type 0
-EachHolds demands = AllByRecursion (λ d. d.holds ≡ true) demands
+EachHolds demands = AllByRecursion Holds demands
 
 none_broken : (demands : List Demand) → EachHolds demands → first_broken demands ≡ None
 none_broken [] each = refl
