@@ -7,3 +7,4 @@ pub mod Agreeing
 pub mod Moving
 pub mod Keeping
 pub mod RightExactly
+pub mod RightExamples
