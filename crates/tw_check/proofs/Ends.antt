@@ -1,5 +1,5 @@
 -- Where a right statement ends: the live names after it follow from those before it, and held names stay as they are.
-use Rattle.std.proofs.Common.{◌≡◌, refl, ap, sym, ◌∙◌, ℕ, true, false, List}
+use Rattle.std.proofs.Common.{◌≡◌, refl, ap, sym, ◌∙◌, subst, ℕ, true, false, List}
 use Rattle.tw_syntax.specs.Statements.{StmtTree}
 use Rattle.tw_check.specs.Names.{Names, with_name}
 use Rattle.tw_check.specs.Liveness.{live_after}
@@ -25,6 +25,9 @@ right_ends (RightWith {setup = setup} {work = work} ready done a b c) =
     ∙ right_ends c
 right_ends (RightBlock a) = right_ends a
 right_ends RightSkip = refl
+
+pub right_to_end : {held : Names} {s : StmtTree} {before after : Names} → Right held s before after → Right held s before (live_after true s before)
+right_to_end {held} {s} {before} right = subst (λ end. Right held s before end) (sym (right_ends right)) right
 
 -- a held name is live after a right statement exactly if it was live before it
 pub held_stays : {held : Names} {s : StmtTree} {before after : Names} → Right held s before after → (name : List ℕ) → held name ≡ true → after name ≡ before name

@@ -3,8 +3,9 @@ pub mod Reversal
 pub mod Ends
 pub mod Undoing
 pub mod Mentions
-pub mod Agreeing
-pub mod Moving
-pub mod Keeping
+pub mod Agreement
+pub mod Coincidence
+pub mod Undoable
+pub mod RightStatements
 pub mod RightExactly
 pub mod RightExamples

@@ -1,13 +1,13 @@
 -- A statement changes the liveness of no name but those that it mentions, and of each by itself.
-use Rattle.std.proofs.Common.{◌≡◌, refl, ap, sym, ◌∙◌, ℕ, Bool, true, false, if◌then◌else◌, List, ◌++◌, bytes_eq}
+use Rattle.std.proofs.Common.{◌≡◌, refl, ap, sym, ◌∙◌, ℕ, Bool, true, false, if◌then◌else◌, List, ◌++◌, bytes_eq, Decides}
 use mathlib.Core.Bool.{beq}
 use Rattle.std.proofs.lemmas.Bool.{or_parts}
 use Rattle.tw_resolve.proofs.Each.{each_weaker}
 use Rattle.tw_syntax.specs.Statements.{StmtTree, Nothing, Then, Else, LetStmt, SwapStmt, MemSwapStmt, IfStmt, WithStmt, BlockStmt, SkipStmt}
-use Rattle.tw_check.specs.Names.{Names, is_one_of}
+use Rattle.tw_check.specs.Names.{Names, is_one_of, agree_on}
 use Rattle.tw_check.specs.Liveness.{rhs_names, texts, names_of, live_after}
 use Rattle.tw_check.specs.Right.{Right}
-use Rattle.tw_check.proofs.NameSets.{Agree, same_if_agree, off-append, with_name-other}
+use Rattle.tw_check.proofs.NameSets.{Agree, same_if_agree, same-Decides, off-append, with_name-other}
 use Rattle.tw_check.proofs.Ends.{right_ends}
 
 pub others_stay : (forward : Bool) (s : StmtTree) (live : Names) (name : List ℕ) → is_one_of name (names_of s) ≡ false → live_after forward s live name ≡ live name
@@ -57,15 +57,22 @@ live_after-at forward (WithStmt at setup work) x y name same =
 live_after-at forward (BlockStmt at body) x y name same = live_after-at forward body x y name same
 live_after-at forward (SkipStmt at) x y name same = same
 
--- two branches that agree on their names end alike
+-- outside the names of two branches they end alike
+branches_off : (first other : StmtTree) (live : Names) (name : List ℕ) → is_one_of name (names_of first ++ names_of other) ≡ false → live_after true first live name ≡ live_after true other live name
+branches_off first other live name off =
+    let parts = off-append name (names_of first) (names_of other) off in
+    others_stay true first live name parts.0 ∙ sym (others_stay true other live name parts.1)
+
 pub branches_alike : (first other : StmtTree) (live : Names) → Agree (names_of first ++ names_of other) (live_after true first live) (live_after true other live) → live_after true first live ≡ live_after true other live
 branches_alike first other live agree =
-    same_if_agree (names_of first ++ names_of other) (live_after true first live) (live_after true other live) agree
-    (λ name off.
-    let parts = off-append name (names_of first) (names_of other) off in
-    others_stay true first live name parts.0 ∙ sym (others_stay true other live name parts.1))
+    same_if_agree (names_of first ++ names_of other) (live_after true first live) (live_after true other live) agree (branches_off first other live)
 
--- the same for a right statement
+-- the test of `BranchesDiffer`: the branches end with the same live names
+pub branches_alike-Decides : (first other : StmtTree) (live : Names) → Decides (agree_on (names_of first ++ names_of other) (live_after true first live) (live_after true other live)) (live_after true first live ≡ live_after true other live)
+branches_alike-Decides first other live =
+    same-Decides (names_of first ++ names_of other) (live_after true first live) (live_after true other live) (branches_off first other live)
+
+-- a right statement leaves the names as they are that it does not mention
 pub right_stays : {held : Names} {s : StmtTree} {before after : Names} → Right held s before after → (name : List ℕ) → is_one_of name (names_of s) ≡ false → after name ≡ before name
 right_stays {s = s} {before = before} right name off = sym (ap (λ (live : Names). live name) (right_ends right)) ∙ others_stay true s before name off
 

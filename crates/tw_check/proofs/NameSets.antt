@@ -75,6 +75,12 @@ on_or_off names name {P} on off = by (is_one_of name names) refl
 pub same_if_agree : (names : List (List ℕ)) (left right : Names) → Agree names left right → ((name : List ℕ) → is_one_of name names ≡ false → left name ≡ right name) → left ≡ right
 same_if_agree names left right agree off = fun_ext (λ name. on_or_off names name (agree_at names left right name agree) (off name))
 
+-- if they agree off a list, the test on the list decides whether they are equal
+pub same-Decides : (names : List (List ℕ)) (left right : Names) → ((name : List ℕ) → is_one_of name names ≡ false → left name ≡ right name) → Decides (agree_on names left right) (left ≡ right)
+same-Decides names left right off =
+    let agree = agree_on-Decides names left right in
+    (λ test. same_if_agree names left right (agree.0 test) off, λ same. agree.1 (agree_if_same names left right same))
+
 -- a name that is on neither of two lists
 pub off-append : (name : List ℕ) (xs ys : List (List ℕ)) → is_one_of name (xs ++ ys) ≡ false → (is_one_of name xs ≡ false) × (is_one_of name ys ≡ false)
 off-append name [] ys off = (refl, off)

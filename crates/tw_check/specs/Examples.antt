@@ -5,7 +5,7 @@ use Rattle.tw_text.specs.Refusals.{broken}
 use Rattle.tw_syntax.specs.Examples.{place}
 use Rattle.tw_syntax.specs.Names.{NameTree, PathTree}
 use Rattle.tw_syntax.specs.Programs.{FunTree}
-use Rattle.tw_syntax.specs.Statements.{StmtTree, Nothing, Then, Else, LetStmt, SwapStmt, IfStmt, WithStmt, SkipStmt}
+use Rattle.tw_syntax.specs.Statements.{StmtTree, Nothing, Then, Else, LetStmt, SwapStmt, MemSwapStmt, IfStmt, WithStmt, SkipStmt}
 use Rattle.tw_syntax.specs.Terms.{AtomTree, PlaceAtom, TrueAtom, RhsTree, OneExpr, NotExpr, ExprRhs, CallRhs}
 use Rattle.tw_syntax.specs.Types.{BoolType}
 use Rattle.tw_resolve.specs.Demands.{first_broken}
@@ -69,6 +69,9 @@ unassign col target rhs = LetStmt (place 1 col) false target rhs
 abbrev swap : PathTree → PathTree → StmtTree
 swap left right = SwapStmt left.root.at left right
 
+abbrev memory_swap : ℕ → PathTree → PathTree → StmtTree
+memory_swap col pointer value = MemSwapStmt (place 1 col) pointer value
+
 abbrev when : ℕ → PathTree → List StmtTree → StmtTree
 when col cond first = IfStmt (place 1 col) cond (run first) Nothing
 
@@ -100,6 +103,14 @@ undoable = function (a 7 ∷ b 16 ∷ []) (within 35 (assign 42 (t 46) (negated 
 pub undoable-accepted : first_broken (fun_rules undoable) ≡ None
 undoable-accepted = refl
 
+-- `fun f(a: bool, b: bool) -> bool { if a { let c <- b; } return c; }`
+abbrev without_else : FunTree
+without_else = function (a 7 ∷ b 16 ∷ []) (when 35 (whole (a 38)) (assign 42 (c 46) (copied (b 51)) ∷ []) ∷ []) 56 (c 63)
+
+-- an `if` without `else` ends with the live names of its branch
+pub without_else-accepted : first_broken (fun_rules without_else) ≡ None
+without_else-accepted = refl
+
 -- `fun f(a: bool) -> bool { let t <- a; let t -> a; let c <- t; return c; }`
 abbrev used_dead : FunTree
 used_dead = function (a 7 ∷ []) (assign 26 (t 30) (copied (a 35)) ∷ unassign 38 (t 42) (copied (a 47)) ∷ assign 50 (c 54) (copied (t 59)) ∷ []) 62 (c 69)
@@ -126,7 +137,7 @@ declared_again-refused = refl
 abbrev target_on_right : FunTree
 target_on_right = function (a 7 ∷ []) (assign 26 (a 30) (copied (a 35)) ∷ []) 38 (a 45)
 
--- the target comes before the right side
+-- `a` is used in its own `let` too, but the target is tried first
 pub target_on_right-refused : first_broken (fun_rules target_on_right) ≡ Some (broken rule.Redeclared (place 1 30))
 target_on_right-refused = refl
 
@@ -145,11 +156,26 @@ condition_swapped = function (a 7 ∷ b 16 ∷ []) (assign 35 (c 39) (copied (a 
 pub condition_swapped-refused : first_broken (fun_rules condition_swapped) ≡ Some (broken rule.ConditionWritten (place 1 54))
 condition_swapped-refused = refl
 
+-- `fun f(a: (bool, ptr<bool>)) -> bool { let c <- true; if a.1 { *a.2 <-> c; } return c; }`
+abbrev pointer_held : FunTree
+pointer_held = function (a 7 ∷ []) (assign 39 (c 43) (literal 48) ∷ when 54 (part (a 57) 1) (memory_swap 63 (part (a 64) 2) (whole (c 72)) ∷ []) ∷ []) 77 (c 84)
+
+-- a memory swap reads its pointer and writes its value
+pub pointer_held-accepted : first_broken (fun_rules pointer_held) ≡ None
+pointer_held-accepted = refl
+
+-- `fun f(a: bool, b: ptr<bool>) -> bool { let c <- true; if a { *b <-> a; } return c; }`
+abbrev value_held : FunTree
+value_held = function (a 7 ∷ b 16 ∷ []) (assign 40 (c 44) (literal 49) ∷ when 55 (whole (a 58)) (memory_swap 62 (whole (b 63)) (whole (a 69)) ∷ []) ∷ []) 74 (c 81)
+
+pub value_held-refused : first_broken (fun_rules value_held) ≡ Some (broken rule.ConditionWritten (place 1 69))
+value_held-refused = refl
+
 -- `fun f(a: bool) -> bool { let t <- a; let t -> a; let t <- t; return t; }`
 abbrev uses_itself : FunTree
 uses_itself = function (a 7 ∷ []) (assign 26 (t 30) (copied (a 35)) ∷ unassign 38 (t 42) (copied (a 47)) ∷ assign 50 (t 54) (copied (t 59)) ∷ []) 62 (t 69)
 
--- the use of `t` in its own `let` comes before its not being live
+-- `t` is not live either, but a use of the target is tried first
 pub uses_itself-refused : first_broken (fun_rules uses_itself) ≡ Some (broken rule.SelfUse (place 1 59))
 uses_itself-refused = refl
 

@@ -1,5 +1,5 @@
 -- A statement is right exactly if it keeps each of its rules.
-use Rattle.std.proofs.Common.{◌≡◌, refl, ap, sym, ◌∙◌, subst, subst₂, ℕ, Bool, true, false, ◌&&◌, List, [], ◌∷◌, ◌++◌, bytes_eq}
+use Rattle.std.proofs.Common.{◌≡◌, refl, sym, ◌∙◌, subst, ℕ, Bool, true, false, ◌&&◌, List, [], ◌∷◌, bytes_eq}
 use Rattle.std.specs.List.{AllByRecursion}
 use Rattle.std.proofs.lemmas.Bool.{false≢true, not-true, not_from_false}
 use Rattle.tw_resolve.proofs.Demands.{Holds, EachHolds}
@@ -7,17 +7,15 @@ use Rattle.tw_resolve.proofs.Each.{each_first, each_rest, each-append}
 use Rattle.tw_syntax.specs.Names.{NameTree}
 use Rattle.tw_syntax.specs.Statements.{StmtTree, Nothing, Then, Else, LetStmt, SwapStmt, MemSwapStmt, IfStmt, WithStmt, BlockStmt, SkipStmt}
 use Rattle.tw_check.specs.Names.{Names, with_name}
-use Rattle.tw_check.specs.Liveness.{rhs_names, names_of, live_after}
+use Rattle.tw_check.specs.Liveness.{rhs_names, live_after}
 use Rattle.tw_check.specs.Reverse.{reverse_of}
 use Rattle.tw_check.specs.Right.{IsOperand, Right, writes, RightNothing, RightThen, RightLet, RightUnlet, RightSwap, RightMemSwap, RightIf, RightIfElse, RightWith, RightBlock, RightSkip}
 use Rattle.tw_check.specs.Rules.{stmt_rules, operand_rules}
-use Rattle.tw_check.proofs.NameSets.{Agree, agree_on-Decides, agree_if_same, with_name-same, with_name-other, with_name-back}
-use Rattle.tw_check.proofs.Reversal.{live_after-reverse_of, names_of-reverse_of, reverse_of-reverse_of}
-use Rattle.tw_check.proofs.Ends.{right_ends}
-use Rattle.tw_check.proofs.Undoing.{right-reverse_of}
-use Rattle.tw_check.proofs.Mentions.{branches_alike}
-use Rattle.tw_check.proofs.Agreeing.{AreLive, right_agree, target_is_live, operands_live, operands_live_after}
-use Rattle.tw_check.proofs.Moving.{right_moved}
+use Rattle.tw_check.proofs.NameSets.{with_name-same, with_name-other, with_name-back}
+use Rattle.tw_check.proofs.Ends.{right_ends, right_to_end}
+use Rattle.tw_check.proofs.Mentions.{branches_alike-Decides}
+use Rattle.tw_check.proofs.Agreement.{AreLive, target_is_live, operands_live, operands_live_after}
+use Rattle.tw_check.proofs.Undoable.{undoable-Decides}
 
 module _ (held live : Names) (target : NameTree) (written : Bool) where
   operands_if_kept : (bare : Names) → ((name : List ℕ) → bytes_eq target.text name ≡ false → live name ≡ true → bare name ≡ true) → (names : List NameTree) → EachHolds (operand_rules held live target written names) → AllByRecursion (IsOperand held bare target written) names
@@ -62,23 +60,20 @@ right_if_kept held live (IfStmt at cond first Nothing) each =
     RightIf each.0 (right_if_kept (with_name held cond.root.text true) live first each.1)
 right_if_kept held live (IfStmt at cond first (Else else_at other)) each =
     let inner = with_name held cond.root.text true in
-    let end_first = live_after true first live in
-    let end_other = live_after true other live in
     let rest = each_rest Holds (stmt_rules inner live first) _ each.1 in
-    let agree = (agree_on-Decides (names_of first ++ names_of other) end_first end_other).0 ((each_rest Holds (stmt_rules inner live other) _ rest).0) in
+    let alike = (branches_alike-Decides first other live).0 ((each_rest Holds (stmt_rules inner live other) _ rest).0) in
+    let right_other = right_if_kept inner live other (each_first Holds (stmt_rules inner live other) _ rest) in
     RightIfElse each.0
     (right_if_kept inner live first (each_first Holds (stmt_rules inner live first) _ each.1))
-    (subst (λ end. Right inner other live end) (sym (branches_alike first other live agree))
-    (right_if_kept inner live other (each_first Holds (stmt_rules inner live other) _ rest)))
+    (subst (λ end. Right inner other live end) (sym alike) right_other)
 right_if_kept held live (WithStmt at setup work) each =
     let ready = live_after true setup live in
     let done = live_after true work ready in
     let rest = each_rest Holds (stmt_rules held live setup) _ each in
     let right_setup = right_if_kept held live setup (each_first Holds (stmt_rules held live setup) _ each) in
-    let agree = (agree_on-Decides (names_of setup) ready done).0 ((each_rest Holds (stmt_rules held ready work) _ rest).0) in
-    RightWith ready done right_setup (right_if_kept held ready work (each_first Holds (stmt_rules held ready work) _ rest))
-    (subst (λ end. Right held (reverse_of setup) done end) (live_after-reverse_of true setup done)
-    (right_moved (right-reverse_of.0 right_setup) done (names_of-reverse_of (λ name. ready name ≡ done name) setup agree)))
+    let right_work = right_if_kept held ready work (each_first Holds (stmt_rules held ready work) _ rest) in
+    let undone = (undoable-Decides right_setup done).0 ((each_rest Holds (stmt_rules held ready work) _ rest).0) in
+    right_to_end (RightWith ready done right_setup right_work undone.1)
 right_if_kept held live (BlockStmt at body) each = RightBlock (right_if_kept held live body each)
 right_if_kept held live (SkipStmt at) each = RightSkip
 right_if_kept held live (Else at stmts) each = absurd (false≢true each.0)
@@ -110,22 +105,17 @@ kept_if_right (RightMemSwap {held = held} {value = value} a b c d) =
 kept_if_right (RightIf live a) = (live, kept_if_right a)
 kept_if_right {before = before} (RightIfElse {held = held} {cond = cond} {first = first} {other = other} live a b) =
     let inner = with_name held cond.root.text true in
-    let names = names_of first ++ names_of other in
-    let end_first = live_after true first before in
-    let end_other = live_after true other before in
-    let agree = (agree_on-Decides names end_first end_other).1 (agree_if_same names end_first end_other (right_ends a ∙ sym (right_ends b))) in (
+    let alike = (branches_alike-Decides first other before).1 (right_ends a ∙ sym (right_ends b)) in (
       live,
       each-append Holds (stmt_rules inner before first) _ (kept_if_right a)
-          (each-append Holds (stmt_rules inner before other) _ (kept_if_right b) (agree, tt)),
+          (each-append Holds (stmt_rules inner before other) _ (kept_if_right b) (alike, tt)),
     )
-kept_if_right {held} {s} {before} (RightWith {setup = setup} {work = work} middle end a b c) =
+kept_if_right {held} {s} {before} {after} (RightWith {setup = setup} {work = work} middle end a b c) =
     let ready = live_after true setup before in
-    let done = live_after true work ready in
-    let to_done : done ≡ end = ap (live_after true work) (right_ends a) ∙ right_ends b in
-    let on_reverse = right_agree (right-reverse_of.0 a) c in
-    let on_setup = subst (λ s. Agree (names_of s) middle end) (reverse_of-reverse_of setup) (names_of-reverse_of (λ name. middle name ≡ end name) (reverse_of setup) on_reverse) in
-    let agree = (agree_on-Decides (names_of setup) ready done).1 (subst₂ (λ x y. Agree (names_of setup) x y) (sym (right_ends a)) (sym to_done) on_setup) in
+    let right_work = subst (λ live. Right held work live end) (sym (right_ends a)) b in
+    let right_back = subst (λ live. Right held (reverse_of setup) live after) (sym (right_ends right_work)) c in
+    let undone = (undoable-Decides (right_to_end a) (live_after true work ready)).1 (after, right_back) in
     each-append Holds (stmt_rules held before setup) _ (kept_if_right a)
-    (each-append Holds (stmt_rules held ready work) _ (subst (λ live. EachHolds (stmt_rules held live work)) (sym (right_ends a)) (kept_if_right b)) (agree, tt))
+    (each-append Holds (stmt_rules held ready work) _ (subst (λ live. EachHolds (stmt_rules held live work)) (sym (right_ends a)) (kept_if_right b)) (undone, tt))
 kept_if_right (RightBlock a) = kept_if_right a
 kept_if_right RightSkip = tt

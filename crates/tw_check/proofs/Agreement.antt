@@ -38,23 +38,23 @@ agree_before {s = s} {x = x} {y = y} {z = z} {w = w} a b agree names after =
     (λ name same. on_or_off (names_of s) name (agree_at (names_of s) x z name agree)
     (λ off. sym (right_stays a name off) ∙ same ∙ right_stays b name off)) names after
 
-pub right_agree : {held held2 : Names} {s : StmtTree} {x y z w : Names} → Right held s x y → Right held2 s z w → Agree (names_of s) x z
-right_agree RightNothing RightNothing = tt
-right_agree {x = x} {z = z} (RightThen {first = first} {rest = rest} m a b) (RightThen n c d) =
-    let agree = right_agree a c in
-    each-append (λ name. x name ≡ z name) (names_of first) (names_of rest) agree (agree_before a c agree (names_of rest) (right_agree b d))
-right_agree {x = x} {z = z} (RightLet {rhs = rhs} a) (RightLet b) =
+pub agree_if_right : {held held2 : Names} {s : StmtTree} {x y z w : Names} → Right held s x y → Right held2 s z w → Agree (names_of s) x z
+agree_if_right RightNothing RightNothing = tt
+agree_if_right {x = x} {z = z} (RightThen {first = first} {rest = rest} m a b) (RightThen n c d) =
+    let agree = agree_if_right a c in
+    each-append (λ name. x name ≡ z name) (names_of first) (names_of rest) agree (agree_before a c agree (names_of rest) (agree_if_right b d))
+agree_if_right {x = x} {z = z} (RightLet {rhs = rhs} a) (RightLet b) =
     (a.dead ∙ sym b.dead, agree_if_live (rhs_names rhs) x z (operands_live a) (operands_live b))
-right_agree {x = x} {z = z} (RightUnlet {rhs = rhs} a) (RightUnlet b) =
+agree_if_right {x = x} {z = z} (RightUnlet {rhs = rhs} a) (RightUnlet b) =
     (target_is_live a ∙ sym (target_is_live b), agree_if_live (rhs_names rhs) x z (operands_live_after a) (operands_live_after b))
-right_agree (RightSwap a b c d e) (RightSwap f g h i j) = (a ∙ sym f, (c ∙ sym h, tt))
-right_agree (RightMemSwap a b c d) (RightMemSwap e f g h) = (a ∙ sym e, (b ∙ sym f, tt))
-right_agree {x = x} {z = z} (RightIf {first = first} live a) (RightIf live2 b) =
-    (live ∙ sym live2, each-append (λ name. x name ≡ z name) (names_of first) [] (right_agree a b) tt)
-right_agree {x = x} {z = z} (RightIfElse {first = first} {other = other} live a b) (RightIfElse live2 c d) =
-    (live ∙ sym live2, each-append (λ name. x name ≡ z name) (names_of first) (names_of other) (right_agree a c) (right_agree b d))
-right_agree {x = x} {z = z} (RightWith {setup = setup} {work = work} m n a b c) (RightWith m2 n2 a2 b2 c2) =
-    let agree = right_agree a a2 in
-    each-append (λ name. x name ≡ z name) (names_of setup) (names_of work) agree (agree_before a a2 agree (names_of work) (right_agree b b2))
-right_agree (RightBlock a) (RightBlock b) = right_agree a b
-right_agree RightSkip RightSkip = tt
+agree_if_right (RightSwap a b c d e) (RightSwap f g h i j) = (a ∙ sym f, (c ∙ sym h, tt))
+agree_if_right (RightMemSwap a b c d) (RightMemSwap e f g h) = (a ∙ sym e, (b ∙ sym f, tt))
+agree_if_right {x = x} {z = z} (RightIf {first = first} live a) (RightIf live2 b) =
+    (live ∙ sym live2, each-append (λ name. x name ≡ z name) (names_of first) [] (agree_if_right a b) tt)
+agree_if_right {x = x} {z = z} (RightIfElse {first = first} {other = other} live a b) (RightIfElse live2 c d) =
+    (live ∙ sym live2, each-append (λ name. x name ≡ z name) (names_of first) (names_of other) (agree_if_right a c) (agree_if_right b d))
+agree_if_right {x = x} {z = z} (RightWith {setup = setup} {work = work} m n a b c) (RightWith m2 n2 a2 b2 c2) =
+    let agree = agree_if_right a a2 in
+    each-append (λ name. x name ≡ z name) (names_of setup) (names_of work) agree (agree_before a a2 agree (names_of work) (agree_if_right b b2))
+agree_if_right (RightBlock a) (RightBlock b) = agree_if_right a b
+agree_if_right RightSkip RightSkip = tt
