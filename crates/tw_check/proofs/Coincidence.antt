@@ -1,4 +1,5 @@
--- A right statement is right from all live names that agree with these on its own names.
+-- The coincidence lemma: a statement that is right from some live names is right from all live names that agree with them on the
+-- names that it mentions.
 use Rattle.std.proofs.Common.{◌≡◌, refl, ap, sym, ◌∙◌, subst, ℕ, Bool, true, false, List, [], ◌∷◌, ◌++◌}
 use Rattle.std.specs.List.{AllByRecursion}
 use Rattle.tw_resolve.proofs.Each.{each_first, each_rest, each_weaker}

@@ -1,4 +1,4 @@
--- A statement changes the liveness of no name but those that it mentions, and of each by itself.
+-- A statement changes the liveness only of names that it mentions, and of each independently of the others.
 use Rattle.std.proofs.Common.{◌≡◌, refl, ap, sym, ◌∙◌, ℕ, Bool, true, false, if◌then◌else◌, List, ◌++◌, bytes_eq, Decides}
 use mathlib.Core.Bool.{beq}
 use Rattle.std.proofs.lemmas.Bool.{or_parts}
@@ -57,7 +57,7 @@ live_after-at forward (WithStmt at setup work) x y name same =
 live_after-at forward (BlockStmt at body) x y name same = live_after-at forward body x y name same
 live_after-at forward (SkipStmt at) x y name same = same
 
--- outside the names of two branches they end alike
+-- off the names of two branches, both end alike
 branches_off : (first other : StmtTree) (live : Names) (name : List ℕ) → is_one_of name (names_of first ++ names_of other) ≡ false → live_after true first live name ≡ live_after true other live name
 branches_off first other live name off =
     let parts = off-append name (names_of first) (names_of other) off in
@@ -72,7 +72,7 @@ pub branches_alike-Decides : (first other : StmtTree) (live : Names) → Decides
 branches_alike-Decides first other live =
     same-Decides (names_of first ++ names_of other) (live_after true first live) (live_after true other live) (branches_off first other live)
 
--- a right statement leaves the names as they are that it does not mention
+-- a right statement keeps the liveness of a name that it does not mention
 pub right_stays : {held : Names} {s : StmtTree} {before after : Names} → Right held s before after → (name : List ℕ) → is_one_of name (names_of s) ≡ false → after name ≡ before name
 right_stays {s = s} {before = before} right name off = sym (ap (λ (live : Names). live name) (right_ends right)) ∙ others_stay true s before name off
 

@@ -15,12 +15,12 @@ with_name-same names name is_in = rw ((bytes_eq-Decides name name).1 refl) refl
 pub with_name-other : (names : Names) (changed name : List ℕ) (is_in : Bool) → bytes_eq changed name ≡ false → with_name names changed is_in name ≡ names name
 with_name-other names changed name is_in other = rw other refl
 
--- a name that is in, or out, stays so if others are put in or taken out, and that name itself is not changed to something else
+-- putting names into a set keeps those that are in, and taking names out keeps those that are out
 pub with_name-kept : (names : Names) (changed name : List ℕ) (is_in : Bool) → names name ≡ is_in → with_name names changed is_in name ≡ is_in
 with_name-kept names changed name is_in was =
     elim (bytes_eq changed name) as (λ k. (if k then is_in else names name) ≡ is_in) [ true ↦ refl | false ↦ was ]
 
--- two names of which one is in and the other out are not the same
+-- a name in a set differs from a name outside it
 pub names_differ : (names : Names) (x y : List ℕ) → names x ≡ false → names y ≡ true → bytes_eq x y ≡ false
 names_differ names x y x_out y_in = by (bytes_eq x y) refl
   where
@@ -63,7 +63,7 @@ agree_at (first ∷ rest) left right name agree one = by (bytes_eq first name) r
     by true same one later = subst (λ x. left x ≡ right x) ((bytes_eq-Decides first name).0 same) agree.0
     by false other one later = later one
 
--- a fact about a name follows for names on a list and for names off it
+-- cases: a name is on a list, or it is not
 pub on_or_off : (names : List (List ℕ)) (name : List ℕ) {P : Type 0} → (is_one_of name names ≡ true → P) → (is_one_of name names ≡ false → P) → P
 on_or_off names name {P} on off = by (is_one_of name names) refl
   where
@@ -75,16 +75,17 @@ on_or_off names name {P} on off = by (is_one_of name names) refl
 pub same_if_agree : (names : List (List ℕ)) (left right : Names) → Agree names left right → ((name : List ℕ) → is_one_of name names ≡ false → left name ≡ right name) → left ≡ right
 same_if_agree names left right agree off = fun_ext (λ name. on_or_off names name (agree_at names left right name agree) (off name))
 
--- if they agree off a list, the test on the list decides whether they are equal
+-- if two sets agree off a list, the test on the list decides whether they are equal
 pub same-Decides : (names : List (List ℕ)) (left right : Names) → ((name : List ℕ) → is_one_of name names ≡ false → left name ≡ right name) → Decides (agree_on names left right) (left ≡ right)
 same-Decides names left right off =
     let agree = agree_on-Decides names left right in
     (λ test. same_if_agree names left right (agree.0 test) off, λ same. agree.1 (agree_if_same names left right same))
 
+pub is_one_of-append : (name : List ℕ) (xs ys : List (List ℕ)) → is_one_of name (xs ++ ys) ≡ (is_one_of name xs || is_one_of name ys)
+is_one_of-append name [] ys = refl
+is_one_of-append name (x ∷ xs) ys =
+    elim (bytes_eq x name) as (λ k. (k || is_one_of name (xs ++ ys)) ≡ ((k || is_one_of name xs) || is_one_of name ys)) [ true ↦ refl | false ↦ is_one_of-append name xs ys ]
+
 -- a name that is on neither of two lists
 pub off-append : (name : List ℕ) (xs ys : List (List ℕ)) → is_one_of name (xs ++ ys) ≡ false → (is_one_of name xs ≡ false) × (is_one_of name ys ≡ false)
-off-append name [] ys off = (refl, off)
-off-append name (x ∷ xs) ys off =
-    let parts = or_parts (bytes_eq x name) (is_one_of name (xs ++ ys)) off in
-    let later = off-append name xs ys parts.1 in
-    (rw (parts.0) (later.0), later.1)
+off-append name xs ys off = or_parts (is_one_of name xs) (is_one_of name ys) (sym (is_one_of-append name xs ys) ∙ off)

@@ -1,4 +1,4 @@
--- The law of reversal: the reverse of a right statement is right, and leads back.
+-- The reverse of a right statement is right, and leads from its end to its beginning.
 use Rattle.std.proofs.Common.{◌↔◌, ◌∙◌, subst, true}
 use Rattle.tw_syntax.specs.Statements.{StmtTree}
 use Rattle.tw_check.specs.Names.{Names}
