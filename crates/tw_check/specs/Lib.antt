@@ -3,3 +3,4 @@ pub mod Reverse
 pub mod Liveness
 pub mod Right
 pub mod Rules
+pub mod Examples

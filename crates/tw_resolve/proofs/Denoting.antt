@@ -4,11 +4,10 @@ use Rattle.tw_text.specs.declared.place.Pos.{Pos}
 use Rattle.std.proofs.Math.Path.{fun_ext}
 use Rattle.std.proofs.lemmas.Bool.{or_cases}
 use Rattle.std.proofs.lemmas.Slice.Eq.{bytes_eq-Decides}
-use Rattle.tw_syntax.specs.Programs.{AliasTree}
-use Rattle.std.proofs.Common.{bytes_eq, ⊎_elim, if◌then◌else◌, option_map, ◌≡◌, ℕ, Bool, true, false, List, Option, Some, None, ap, sym, refl, subst, ap₂}
+use Rattle.std.proofs.Common.{bytes_eq, ⊎_elim, if◌then◌else◌, option_map, ◌≡◌, ℕ, Bool, true, false, Option, Some, None, ap, sym, refl, subst, ap₂}
 use Rattle.tw_syntax.specs.Types.{WrittenTree, UnitType, UintType, BoolType, PairType, PtrType, NamedType}
 use Rattle.tw_types.specs.Types.{Ty, Pointer, PairTy}
-use Rattle.tw_resolve.specs.Declarations.{Name, declared_as, target_number}
+use Rattle.tw_resolve.specs.Declarations.{Name, target_number}
 use Rattle.tw_resolve.specs.Denotes.{Scope, names_declared, Denotes, DenotesUnit, DenotesWord, DenotesBoolean, DenotesPair, DenotesPointer, DenotesNamed, AreTypes, Reaches, ReachesNext, ReachesOn, names_outside_pointers}
 use Rattle.tw_text.specs.Places.{first_place}
 use Rattle.tw_resolve.specs.Setting.{Setting, type_of, pair_of}

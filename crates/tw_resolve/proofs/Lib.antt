@@ -1,2 +1,5 @@
+pub mod Demands
 pub mod Denoting
+pub mod Each
+pub mod Entries
 pub mod Refusals

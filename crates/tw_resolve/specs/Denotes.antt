@@ -2,7 +2,7 @@
 use Rattle.std.specs.Prelude.{◌≡◌, ◌↔◌, ℕ, Bool, true, false, ◌||◌, ◌&&◌, List, Option, Some, is_some}
 use Rattle.std.specs.Str.{bytes_eq}
 use Rattle.tw_text.specs.declared.place.Pos.{Pos}
-use Rattle.tw_syntax.specs.Programs.{AliasTree, ProgramTree}
+use Rattle.tw_syntax.specs.Programs.{ProgramTree}
 use Rattle.tw_syntax.specs.Types.{WrittenTree, UnitType, UintType, BoolType, PairType, PtrType, NamedType}
 use Rattle.tw_types.specs.Types.{Ty, UnitTy, Word, Boolean, Pointer, PairTy}
 use Rattle.tw_resolve.specs.Declarations.{Name, aliases_of, declared_as, targets_of, target_number}

@@ -1,25 +1,29 @@
 -- What the entries of the tables of the code hold.
 use denote.Bor.{Bor}
-use Rattle.std.specs.Prelude.{◌≡◌, ℕ, List, map, Option, option_map, refl}
+use Rattle.std.specs.Prelude.{◌≡◌, ℕ, List, map, Option, option_map}
 use Rattle.std.specs.Map.{lookup}
 use Rattle.std.specs.Str.{bytes_eq}
+use Rattle.tw_syntax.specs.declared.program.Alias.{Alias}
 use Rattle.tw_syntax.specs.declared.program.Fun.{Fun}
 use Rattle.tw_syntax.specs.declared.written.Written.{Written}
-use Rattle.tw_syntax.specs.Programs.{FunTree, fun_tree}
+use Rattle.tw_syntax.specs.Programs.{AliasTree, alias_tree, FunTree, fun_tree}
 use Rattle.tw_syntax.specs.Types.{WrittenTree, type_print, written_tree}
-use Rattle.tw_types.specs.Types.{Widths, Ty, depth, extent}
+use Rattle.tw_types.specs.Types.{Ty}
 use Rattle.tw_types.specs.FromCode.{ty_of}
 use Rattle.tw_resolve.specs.declared.sizes.SizedTy.{SizedTy}
 use Rattle.tw_resolve.specs.Declarations.{Name}
-use Rattle.tw_resolve.specs.Setting.{reported}
 
 -- what a table by names holds of a name
 abbrev pub found : {V : Type 0} → List (Bor (List ℕ) × V) → Name → Option V
 found entries name = lookup (λ key. bytes_eq name key.now) entries
 
--- what each alias is declared as
-abbrev pub declared_in : List (Bor (List ℕ) × Bor Written) → Name → Option WrittenTree
-declared_in entries name = option_map (λ written. written_tree written.now) (found entries name)
+-- an alias stands under its name
+pub record IsAlias (entry : Bor (List ℕ) × Bor Alias) : Type 0 where
+  pub key : entry.0.now ≡ (alias_tree entry.1.now).name.text
+
+-- the aliases
+abbrev pub aliases_in : List (Bor (List ℕ) × Bor Alias) → List AliasTree
+aliases_in entries = map (λ entry. alias_tree entry.1.now) entries
 
 -- a target stands under its printed form
 pub record IsKeyed (entry : Bor (List ℕ) × Bor Written) : Type 0 where
@@ -28,11 +32,6 @@ pub record IsKeyed (entry : Bor (List ℕ) × Bor Written) : Type 0 where
 -- the targets of pointers
 abbrev pub targets_in : List (Bor (List ℕ) × Bor Written) → List WrittenTree
 targets_in entries = map (λ entry. written_tree entry.1.now) entries
-
--- a type has these sizes, as far as a refusal can report them
-pub record IsSized (widths : Widths) (sized : SizedTy) : Type 0 where
-  pub depth : sized.depth ≡ reported (depth (ty_of sized.ty))
-  pub extent : sized.extent ≡ reported (extent widths (ty_of sized.ty))
 
 -- the types of the declared names
 abbrev pub types_in : List (Bor (List ℕ) × SizedTy) → Name → Option Ty
@@ -45,4 +44,3 @@ pub record IsNamed (entry : Bor (List ℕ) × Bor Fun) : Type 0 where
 -- the functions
 abbrev pub funs_in : List (Bor (List ℕ) × Bor Fun) → List FunTree
 funs_in entries = map (λ entry. fun_tree entry.1.now) entries
-

@@ -6,5 +6,6 @@ pub mod Names
 pub mod Expressions
 pub mod Statements
 pub mod Programs
+pub mod Sizes
 pub mod Entries
 pub mod Tables

@@ -2,7 +2,7 @@
 use Rattle.std.specs.Prelude.{Option, not, List, [], ◌∷◌, ◌++◌, map, flat_map, is_some}
 use Rattle.tw_text.specs.declared.refusal.Rule.TheVariants as rule
 use Rattle.tw_syntax.specs.Names.{NameTree}
-use Rattle.tw_syntax.specs.Programs.{AliasTree, ProgramTree}
+use Rattle.tw_syntax.specs.Programs.{ProgramTree}
 use Rattle.tw_syntax.specs.Types.{WrittenTree, PairType, PtrType, NamedType}
 use Rattle.tw_resolve.specs.Demands.{Demand, demand}
 use Rattle.tw_resolve.specs.Declarations.{Name, is_one_of, aliases_of, funs_of, declared_as}

@@ -2,6 +2,7 @@
 //! The definitions of `specs/` say what each rule demands, and `proofs/` has their laws.
 #![tactic(auto)]
 
+mod alias_table;
 mod demand;
 mod fun_table;
 mod sizes;

@@ -34,13 +34,21 @@ impl<'a> TargetTable<'a> {
     pub fn number_of(&self, alloc: Global, to: &Written) -> Result<Option<TargetId>, Fault>
         ensures { IfOk result (λ number. option_map (λ id. id.0) number ≡ target_number (targets_in self.now.table.entries) (written_tree to.now)) }
     {
-        let mut text = String::new(alloc);
-        print_type(&mut text, to)?;
+        let text = printed(alloc, to)?;
         match self.table.get_index_of(text.as_str()) {
             Some(place) => Ok(Some(TargetId(place as u32))),
             None => Ok(None),
         }
     }
+}
+
+/// The printed form of a written type.
+fn printed(alloc: Global, written: &Written) -> Result<String, AllocError>
+    ensures { IfOk result (λ text. string_bytes text ≡ type_print (written_tree written.now)) }
+{
+    let mut text = String::new(alloc);
+    print_type(&mut text, written)?;
+    Ok(text)
 }
 
 /// Appends the printed form of a written type.

@@ -4,7 +4,8 @@ ghost use Rattle.std.specs.List.{AllByRecursion};
 ghost use Rattle.std.specs.Prelude.{◌≡◌, None, Some, option_map, IfSome, OnOk};
 ghost use Rattle.std.specs.Str.{bytes_eq};
 ghost use Rattle.tw_types.specs.FromCode.{ty_of};
-ghost use Rattle.tw_resolve.specs.Entries.{IsSized, types_in};
+ghost use Rattle.tw_resolve.specs.Entries.{types_in};
+ghost use Rattle.tw_resolve.specs.Sizes.{IsSized};
 
 use crate::sizes::SizedTy;
 use indexmap::IndexMap;

@@ -1,0 +1,11 @@
+pub mod NameSets
+pub mod Reversal
+pub mod Ends
+pub mod Undoing
+pub mod Mentions
+pub mod Agreement
+pub mod Coincidence
+pub mod Undoable
+pub mod RightStatements
+pub mod RightExactly
+pub mod RightExamples
