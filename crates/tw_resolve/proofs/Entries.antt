@@ -1,6 +1,7 @@
 -- What is found in the tables of the code.
 use denote.Bor.{Bor}
-use Rattle.std.proofs.Common.{◌≡◌, ◌∙◌, ℕ, Bool, true, false, cond, List, [], ◌∷◌, map, Option, Some, option_map, IfSome, position, ap, sym, refl, bytes_eq}
+use Rattle.indexmap.specs.IndexMap.{insert_entry}
+use Rattle.std.proofs.Common.{None, subst, Result, Ok, Err, OnOk, OnErr, ◌||◌, is_some, ◌≡◌, ◌∙◌, ℕ, Bool, true, false, cond, List, [], ◌∷◌, map, Option, Some, option_map, IfSome, position, ap, sym, refl, bytes_eq}
 use Rattle.std.specs.List.{AllByRecursion, position_or_len}
 use Rattle.std.specs.Map.{lookup, keys_of}
 use Rattle.std.proofs.lemmas.List.{length-map}
@@ -8,9 +9,10 @@ use Rattle.tw_syntax.specs.declared.written.Written.{Written}
 use Rattle.tw_syntax.specs.declared.program.Alias.{Alias}
 use Rattle.tw_syntax.specs.declared.program.Fun.{Fun}
 use Rattle.tw_syntax.specs.Types.{WrittenTree, type_print, written_tree}
-use Rattle.tw_resolve.specs.Declarations.{Name, declared_as, target_number, number_of}
+use Rattle.tw_resolve.specs.Declarations.{Name, is_one_of, declared_as, target_number, number_of}
 use Rattle.tw_syntax.specs.Programs.{FunTree, fun_tree, alias_tree}
 use Rattle.tw_resolve.proofs.Each.{each_always, each_weaker}
+use Rattle.tw_resolve.specs.Names.{alias_texts}
 use Rattle.tw_resolve.specs.Entries.{IsAlias, aliases_in, IsKeyed, IsNamed, targets_in, funs_in}
 
 -- what is found has what all values have
@@ -75,3 +77,38 @@ declared_as-found (entry ∷ entries) keyed name =
     ap (λ (key : Name). cond (bytes_eq name key) (Some (body_of entry.1)) (declared_as (aliases_in entries) name)) (sym keyed.0.key)
     ∙ first_or_other (bytes_eq name entry.0.now) entry.1 (declared_as (aliases_in entries) name) (lookup (λ key. bytes_eq name key.now) entries)
     (declared_as-found entries keyed.1 name)
+
+-- what all entries have stays, if a value is inserted that has it under each key that is equal to its own
+pub all_insert : {V : Type 0} (P : Bor (List ℕ) × V → Type 0) (eq : Bor (List ℕ) → Bor (List ℕ) → Bool) (key : Bor (List ℕ)) (value : V)
+    → ((other : Bor (List ℕ)) → eq key other ≡ true → P (other, value)) → P (key, value) → (entries : List (Bor (List ℕ) × V))
+    → AllByRecursion P entries → AllByRecursion P (insert_entry eq entries key value)
+all_insert P eq key value same own [] all = (own, tt)
+all_insert P eq key value same own (entry ∷ entries) all = by (eq key entry.0) refl (all_insert P eq key value same own entries all.1)
+  where
+    by : (k : Bool) → eq key entry.0 ≡ k → AllByRecursion P (insert_entry eq entries key value)
+        → AllByRecursion P (cond k ((entry.0, value) ∷ entries) (entry ∷ insert_entry eq entries key value))
+    by true is rest = (same entry.0 is, all.1)
+    by false is rest = (all.0, rest)
+
+-- a name is that of an alias if it is found
+pub is_one_of-found : (entries : List (Bor (List ℕ) × Bor Alias)) → AllByRecursion IsAlias entries → (name : Name)
+    → is_one_of name (alias_texts (aliases_in entries)) ≡ is_some (lookup (λ key. bytes_eq name key.now) entries)
+is_one_of-found [] keyed name = refl
+is_one_of-found (entry ∷ entries) keyed name =
+    ap (λ (key : Name). bytes_eq name key || is_one_of name (alias_texts (aliases_in entries))) (sym keyed.0.key)
+    ∙ by (bytes_eq name entry.0.now) (is_one_of-found entries keyed.1 name)
+  where
+    by : (k : Bool) → is_one_of name (alias_texts (aliases_in entries)) ≡ is_some (lookup (λ key. bytes_eq name key.now) entries)
+        → (k || is_one_of name (alias_texts (aliases_in entries))) ≡ is_some (cond k (Some entry.1) (lookup (λ key. bytes_eq name key.now) entries))
+    by true same = refl
+    by false same = same
+
+-- entries stay, or one is inserted: what all have stays
+pub all_kept : {V A E : Type 0} (P : Bor (List ℕ) × V → Type 0) (old new inserted : List (Bor (List ℕ) × V)) (result : Result A E)
+    → OnOk result (new ≡ inserted) → OnErr result (new ≡ old) → AllByRecursion P old → AllByRecursion P inserted → AllByRecursion P new
+all_kept P old new inserted (Ok x) ok err was is = subst (AllByRecursion P) (sym ok) is
+all_kept P old new inserted (Err x) ok err was is = subst (AllByRecursion P) (sym err) was
+
+pub absent : {A : Type 0} (found : Option A) → is_some found ≡ false → found ≡ None
+absent None none = refl
+absent (Some x) none = absurd (cc none)

@@ -2,7 +2,7 @@
 use Rattle.std.specs.Prelude.{Option, not, List, [], ◌∷◌, ◌++◌, map, flat_map, is_some}
 use Rattle.tw_text.specs.declared.refusal.Rule.TheVariants as rule
 use Rattle.tw_syntax.specs.Names.{NameTree}
-use Rattle.tw_syntax.specs.Programs.{ProgramTree}
+use Rattle.tw_syntax.specs.Programs.{AliasTree, FunTree, ProgramTree}
 use Rattle.tw_syntax.specs.Types.{WrittenTree, PairType, PtrType, NamedType}
 use Rattle.tw_resolve.specs.Demands.{Demand, demand}
 use Rattle.tw_resolve.specs.Declarations.{Name, is_one_of, aliases_of, funs_of, declared_as}
@@ -11,7 +11,14 @@ use Rattle.tw_resolve.specs.Declarations.{Name, is_one_of, aliases_of, funs_of, 
 abbrev pub different_rules : List Name → List NameTree → List Demand
 different_rules earlier [] = []
 different_rules earlier (name ∷ names) =
-    demand rule.DuplicateName name.at (not (is_one_of name.text earlier)) ∷ different_rules (name.text ∷ earlier) names
+    demand rule.DuplicateName name.at (not (is_one_of name.text earlier)) ∷ different_rules (earlier ++ name.text ∷ []) names
+
+-- the names of aliases and of functions
+abbrev pub alias_texts : List AliasTree → List Name
+alias_texts aliases = map (λ alias. alias.name.text) aliases
+
+abbrev pub fun_texts : List FunTree → List Name
+fun_texts funs = map (λ fun. fun.name.text) funs
 
 -- each name in a written type is declared
 abbrev pub declared_rules : (Name → Option WrittenTree) → WrittenTree → List Demand
