@@ -17,17 +17,21 @@ use Rattle.tw_resolve.specs.Declarations.{Name}
 abbrev pub found : {V : Type 0} → List (Bor (List ℕ) × V) → Name → Option V
 found entries name = lookup (λ key. bytes_eq name key.now) entries
 
+-- a value stands under the text of its tree
+pub record IsNamedBy {V T : Type 0} (tree : V → T) (text : T → Name) (entry : Bor (List ℕ) × V) : Type 0 where
+  pub key : entry.0.now ≡ text (tree entry.1)
+
 -- an alias stands under its name
-pub record IsAlias (entry : Bor (List ℕ) × Bor Alias) : Type 0 where
-  pub key : entry.0.now ≡ (alias_tree entry.1.now).name.text
+abbrev pub IsAlias : Bor (List ℕ) × Bor Alias → Type 0
+IsAlias = IsNamedBy (λ alias. alias_tree alias.now) (λ alias. alias.name.text)
 
 -- the aliases
 abbrev pub aliases_in : List (Bor (List ℕ) × Bor Alias) → List AliasTree
 aliases_in entries = map (λ entry. alias_tree entry.1.now) entries
 
 -- a target stands under its printed form
-pub record IsKeyed (entry : Bor (List ℕ) × Bor Written) : Type 0 where
-  pub key : entry.0.now ≡ type_print (written_tree entry.1.now)
+abbrev pub IsTarget : Bor (List ℕ) × Bor Written → Type 0
+IsTarget = IsNamedBy (λ written. written_tree written.now) type_print
 
 -- the targets of pointers
 abbrev pub targets_in : List (Bor (List ℕ) × Bor Written) → List WrittenTree
@@ -38,8 +42,8 @@ abbrev pub types_in : List (Bor (List ℕ) × SizedTy) → Name → Option Ty
 types_in entries name = option_map (λ sized. ty_of sized.ty) (found entries name)
 
 -- a function stands under its name
-pub record IsNamed (entry : Bor (List ℕ) × Bor Fun) : Type 0 where
-  pub key : entry.0.now ≡ (fun_tree entry.1.now).name.text
+abbrev pub IsFun : Bor (List ℕ) × Bor Fun → Type 0
+IsFun = IsNamedBy (λ fun. fun_tree fun.now) (λ fun. fun.name.text)
 
 -- the functions
 abbrev pub funs_in : List (Bor (List ℕ) × Bor Fun) → List FunTree

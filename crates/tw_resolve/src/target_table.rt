@@ -1,10 +1,10 @@
 //! The targets of the pointers of a program.
 ghost use Rattle.std.proofs.Props.{props};
 ghost use Rattle.std.specs.List.{AllByRecursion};
-ghost use Rattle.std.specs.Prelude.{◌≡◌, ◌++◌, ◌≤◌, [], length, option_map, IfOk, OnOk, OnErr, string_bytes};
+ghost use Rattle.std.specs.Prelude.{◌≡◌, ◌∷◌, None, ◌++◌, ◌≤◌, [], length, option_map, IfOk, OnOk, OnErr, string_bytes};
 ghost use Rattle.tw_syntax.specs.Types.{type_print, written_tree};
 ghost use Rattle.tw_resolve.specs.Declarations.{target_number, with_target};
-ghost use Rattle.tw_resolve.specs.Entries.{IsKeyed, targets_in};
+ghost use Rattle.tw_resolve.specs.Entries.{IsTarget, targets_in};
 
 use indexmap::IndexMap;
 use std::alloc::{AllocError, Global};
@@ -16,7 +16,7 @@ use tw_types::TargetId;
 #[derive(Drop)]
 pub struct TargetTable<'a> {
     table: IndexMap<&'a str, &'a Written<'a>>,
-    ghost keyed: { AllByRecursion IsKeyed table.entries } by { Prim.hlevel props },
+    ghost keyed: { AllByRecursion IsTarget table.entries } by { Prim.hlevel props },
     ghost few: { length table.entries ≤ 4294967295 },
 }
 
@@ -38,6 +38,30 @@ impl<'a> TargetTable<'a> {
         match self.table.get_index_of(text.as_str()) {
             Some(place) => Ok(Some(TargetId(place as u32))),
             None => Ok(None),
+        }
+    }
+
+    /// Adds a target that is written as no other. An error: out of memory, or there are 4,294,967,295 targets.
+    fn put(&mut self, alloc: Global, arena: &'a Arena, to: &'a Written<'a>) -> Result<(), Fault>
+        requires new { target_number (targets_in self.old.table.entries) (written_tree to.now) ≡ None }
+        ensures { OnOk result (targets_in self.new.table.entries ≡ targets_in self.old.table.entries ++ written_tree to.now ∷ []) }
+    {
+        if self.table.len() >= 4_294_967_295 {
+            return Err(Fault::Memory);
+        }
+        let text = printed(alloc, to)?;
+        let key = arena.try_alloc_str(text.as_str())?;
+        self.table.insert(key, to)?;
+        Ok(())
+    }
+
+    /// Adds a target, if none is written as it is. An error: out of memory, or there are 4,294,967,295 targets.
+    pub fn add(&mut self, alloc: Global, arena: &'a Arena, to: &'a Written<'a>) -> Result<(), Fault>
+        ensures { OnOk result (targets_in self.new.table.entries ≡ with_target (targets_in self.old.table.entries) (written_tree to.now)) }
+    {
+        match self.number_of(alloc, to)? {
+            Some(_) => Ok(()),
+            None => self.put(alloc, arena, to),
         }
     }
 }

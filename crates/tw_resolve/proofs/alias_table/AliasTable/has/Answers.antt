@@ -5,4 +5,4 @@ use Rattle.tw_resolve.proofs.alias_table.AliasTable.has.Goals as goal
 pub returns : goal.returns
 returns c =
     let aliases = c.args.self.now in
-    c.contains_key.ensures ∙ sym (is_one_of-found aliases.table.entries aliases.keyed c.args.name.now)
+    c.contains_key.ensures ∙ sym (is_one_of-found _ _ aliases.table.entries aliases.keyed c.args.name.now)
