@@ -3,3 +3,5 @@ pub mod Denoting
 pub mod Each
 pub mod Entries
 pub mod Refusals
+pub mod Trying
+pub mod Declaring

@@ -13,7 +13,13 @@ different_rules earlier [] = []
 different_rules earlier (name ∷ names) =
     demand rule.DuplicateName name.at (not (is_one_of name.text earlier)) ∷ different_rules (earlier ++ name.text ∷ []) names
 
--- the names of aliases and of functions
+-- the names of aliases and of functions, with and without their places
+abbrev pub alias_names : List AliasTree → List NameTree
+alias_names aliases = map (λ alias. alias.name) aliases
+
+abbrev pub fun_names : List FunTree → List NameTree
+fun_names funs = map (λ fun. fun.name) funs
+
 abbrev pub alias_texts : List AliasTree → List Name
 alias_texts aliases = map (λ alias. alias.name.text) aliases
 
@@ -27,10 +33,14 @@ declared_rules declared (PtrType at to) = declared_rules declared to
 declared_rules declared (NamedType at name) = demand rule.UnknownName at (is_some (declared name)) ∷ []
 declared_rules declared other = []
 
+-- each name in aliases is declared
+abbrev pub aliases_rules : (Name → Option WrittenTree) → List AliasTree → List Demand
+aliases_rules declared aliases = flat_map (λ alias. declared_rules declared alias.body) aliases
+
 -- the names of aliases are different, then those of functions, and then the names in the aliases are declared
 abbrev pub name_rules : ProgramTree → List Demand
 name_rules program =
     let aliases = aliases_of program.decls in
-    different_rules [] (map (λ alias. alias.name) aliases)
-    ++ (different_rules [] (map (λ fun. fun.name) (funs_of program.decls))
-    ++ flat_map (λ alias. declared_rules (declared_as aliases) alias.body) aliases)
+    different_rules [] (alias_names aliases)
+    ++ (different_rules [] (fun_names (funs_of program.decls))
+    ++ aliases_rules (declared_as aliases) aliases)

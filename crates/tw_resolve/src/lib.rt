@@ -5,6 +5,7 @@
 mod alias_table;
 mod demand;
 mod fun_table;
+mod names;
 mod sizes;
 mod tables;
 mod target_table;
