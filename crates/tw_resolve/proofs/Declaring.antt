@@ -1,7 +1,7 @@
 -- Declarations that are taken one after the other, while their names are different.
 use Rattle.std.proofs.lemmas.List.{drop_more}
 use Rattle.tw_syntax.specs.declared.program.Decl.{Decl}
-use Rattle.std.proofs.Common.{drop, get_or, length, ◌<◌, ◌+◌, ◌≡◌, ◌∙◌, ℕ, not, List, [], ◌∷◌, ◌++◌, map, Option, Some, None, ap, sym, subst, refl, append_assoc, append-nil}
+use Rattle.std.proofs.Common.{drop, get_or, length, ◌<◌, ◌+◌, ◌≡◌, ◌∙◌, ℕ, not, List, [], ◌∷◌, ◌++◌, map, Option, None, ap, sym, subst, refl, append_assoc, append-nil}
 use Rattle.std.proofs.lemmas.List.{map-append}
 use Rattle.tw_text.specs.declared.refusal.Fault.{Fault}
 use Rattle.tw_text.specs.declared.refusal.Refusal.{Refusal}
@@ -12,7 +12,7 @@ use Rattle.tw_syntax.specs.Programs.{AliasTree, FunTree, DeclTree, AliasDecl, Fu
 use Rattle.tw_resolve.specs.Declarations.{Name, is_one_of, aliases_of, funs_of}
 use Rattle.tw_resolve.specs.Demands.{Demand, demand, first_broken, IsReported}
 use Rattle.tw_resolve.specs.Names.{different_rules, declared_rules, aliases_rules}
-use Rattle.tw_resolve.proofs.Demands.{first_broken-after_none, first_broken-before}
+use Rattle.tw_resolve.proofs.Demands.{first_broken-after_none}
 use Rattle.tw_resolve.proofs.Trying.{reported_before}
 
 -- the rules of names in two parts
@@ -21,8 +21,8 @@ different_parts : (earlier : List Name) (xs ys : List NameTree)
 different_parts earlier [] ys = ap (λ (names : List Name). different_rules names ys) (sym (append-nil earlier))
 different_parts earlier (x ∷ xs) ys =
     ap (λ (rest : List Demand). demand rule.DuplicateName x.at (not (is_one_of x.text earlier)) ∷ rest)
-        (different_parts (earlier ++ x.text ∷ []) xs ys
-        ∙ ap (λ (names : List Name). different_rules (earlier ++ x.text ∷ []) xs ++ different_rules names ys) (append_assoc earlier (x.text ∷ []) (map (λ name. name.text) xs)))
+    (different_parts (earlier ++ x.text ∷ []) xs ys
+    ∙ ap (λ (names : List Name). different_rules (earlier ++ x.text ∷ []) xs ++ different_rules names ys) (append_assoc earlier (x.text ∷ []) (map (λ name. name.text) xs)))
 
 module _ {T : Type 0} (pick : List DeclTree → List T) (name : T → NameTree)
     (nothing : pick [] ≡ []) (first : (decl : DeclTree) (decls : List DeclTree) → pick (decl ∷ decls) ≡ pick (decl ∷ []) ++ pick decls) where
@@ -46,7 +46,7 @@ module _ {T : Type 0} (pick : List DeclTree → List T) (name : T → NameTree)
       ∙ ap (different_rules (texts done)) (map-append name (pick (decl ∷ [])) (pick rest))
       ∙ different_parts (texts done) (map name (pick (decl ∷ []))) (map name (pick rest))
       ∙ ap (λ (names : List Name). different_rules (texts done) (map name (pick (decl ∷ []))) ++ different_rules names (map name (pick rest)))
-          (ap (λ (names : List Name). texts done ++ names) (map_twice (pick (decl ∷ []))) ∙ sym (map-append (λ x. (name x).text) done (pick (decl ∷ []))))
+      (ap (λ (names : List Name). texts done ++ names) (map_twice (pick (decl ∷ []))) ∙ sym (map-append (λ x. (name x).text) done (pick (decl ∷ []))))
     where
       map_twice : (xs : List T) → map (λ n. n.text) (map name xs) ≡ texts xs
       map_twice [] = refl
@@ -64,7 +64,7 @@ module _ {T : Type 0} (pick : List DeclTree → List T) (name : T → NameTree)
       → IsReported (first_broken (different_rules [] (map name (pick whole)))) why
   stop whole done decl rest why now is =
       subst (λ (broken : Option Refusal). IsReported broken why) (sym (now.tried ∙ ap first_broken (rest_parts done decl rest)))
-          (reported_before (different_rules (texts done) (map name (pick (decl ∷ [])))) (different_rules (texts (done ++ pick (decl ∷ []))) (map name (pick rest))) why is)
+      (reported_before (different_rules (texts done) (map name (pick (decl ∷ [])))) (different_rules (texts (done ++ pick (decl ∷ []))) (map name (pick rest))) why is)
 
   pub none_at_end : (whole : List DeclTree) (done : List T) → Declaring whole done [] → first_broken (different_rules [] (map name (pick whole))) ≡ None
   none_at_end whole done now = now.tried ∙ ap (λ (xs : List T). first_broken (different_rules (texts done) (map name xs))) nothing
@@ -110,7 +110,7 @@ pub known_stop : (declared : Name → Option WrittenTree) (whole : List DeclTree
     → IsReported (first_broken (aliases_rules declared (aliases_of (decl ∷ [])))) why → IsReported (first_broken (aliases_rules declared (aliases_of whole))) why
 known_stop declared whole decl rest why now is =
     subst (λ (broken : Option Refusal). IsReported broken why) (sym (now.tried ∙ ap first_broken (first_rules declared decl rest)))
-        (reported_before (aliases_rules declared (aliases_of (decl ∷ []))) (aliases_rules declared (aliases_of rest)) why is)
+    (reported_before (aliases_rules declared (aliases_of (decl ∷ []))) (aliases_rules declared (aliases_of rest)) why is)
 
 -- the rest, from a position on, is the item there and the rest after it
 item_there : (decls : List Decl) (i : ℕ) (item : Decl) (d : Decl) → i < length decls → item ≡ get_or decls i d
@@ -122,11 +122,11 @@ pub known_next : (declared : Name → Option WrittenTree) (decls : List Decl) (i
     → KnownSoFar declared (map decl_tree decls) (map decl_tree (drop (i + 1) decls))
 known_next declared decls i item d inside is now none =
     known_step declared (map decl_tree decls) (decl_tree item) (map decl_tree (drop (i + 1) decls))
-        (subst (KnownSoFar declared (map decl_tree decls)) (item_there decls i item d inside is) now) none
+    (subst (KnownSoFar declared (map decl_tree decls)) (item_there decls i item d inside is) now) none
 
 pub known_until : (declared : Name → Option WrittenTree) (decls : List Decl) (i : ℕ) (item : Decl) (d : Decl) (why : Fault) → i < length decls → item ≡ get_or decls i d
     → KnownSoFar declared (map decl_tree decls) (map decl_tree (drop i decls)) → IsReported (first_broken (aliases_rules declared (aliases_of (decl_tree item ∷ [])))) why
     → IsReported (first_broken (aliases_rules declared (aliases_of (map decl_tree decls)))) why
 known_until declared decls i item d why inside is now reported =
     known_stop declared (map decl_tree decls) (decl_tree item) (map decl_tree (drop (i + 1) decls)) why
-        (subst (KnownSoFar declared (map decl_tree decls)) (item_there decls i item d inside is) now) reported
+    (subst (KnownSoFar declared (map decl_tree decls)) (item_there decls i item d inside is) now) reported

@@ -1,14 +1,14 @@
 -- What is found in the tables of the code, and what an insertion keeps.
 use denote.Bor.{Bor}
-use Rattle.std.proofs.Common.{◌≡◌, ◌∙◌, ◌+◌, ◌<◌, ◌≤◌, suc, arith, ◌||◌, ℕ, Bool, true, false, not, cond, List, [], ◌∷◌, ◌++◌, map, Option, Some, None, option_map, is_some, IfSome, Result, Ok, Err, OnOk, OnErr, position, length, ap, sym, subst, refl, bytes_eq}
+use Rattle.std.proofs.Common.{◌≡◌, ◌∙◌, ◌<◌, ◌≤◌, suc, arith, ◌||◌, ℕ, Bool, true, false, cond, List, [], ◌∷◌, map, Option, Some, None, option_map, is_some, IfSome, Result, Ok, Err, OnOk, OnErr, position, length, ap, sym, subst, refl, bytes_eq}
 use Rattle.std.specs.List.{AllByRecursion, position_or_len}
 use Rattle.std.specs.Map.{lookup, keys_of}
-use Rattle.std.proofs.lemmas.List.{length-map, map-append}
+use Rattle.std.proofs.lemmas.List.{length-map}
 use Rattle.std.proofs.lemmas.Slice.Eq.{bytes_eq-Decides}
 use Rattle.indexmap.specs.IndexMap.{insert_entry}
 use Rattle.tw_syntax.specs.declared.program.Alias.{Alias}
 use Rattle.tw_syntax.specs.Programs.{alias_tree}
-use Rattle.tw_syntax.specs.Types.{WrittenTree, written_tree}
+use Rattle.tw_syntax.specs.Types.{WrittenTree}
 use Rattle.tw_resolve.specs.Declarations.{Name, is_one_of, declared_as}
 use Rattle.tw_resolve.specs.Entries.{IsNamedBy, IsAlias, aliases_in}
 use Rattle.tw_resolve.proofs.Each.{each_always, each_weaker}
@@ -44,7 +44,7 @@ module _ {V T : Type 0} (tree : V → T) (text : T → Name) where
   position_of_text entries named name =
       position-map (λ (key : Bor (List ℕ)). bytes_eq name key.now) (λ entry. entry.0) entries
       ∙ same_position (λ (entry : Bor (List ℕ) × V). bytes_eq name entry.0.now) (λ (x : T). bytes_eq name (text x)) (λ entry. tree entry.1) entries
-          (each_weaker (IsNamedBy tree text) _ (λ entry is. ap (bytes_eq name) is.key) entries named)
+      (each_weaker (IsNamedBy tree text) _ (λ entry is. ap (bytes_eq name) is.key) entries named)
 
   -- a name is the text of a tree if it is found
   pub is_one_of-found : (entries : List (Bor (List ℕ) × V)) → AllByRecursion (IsNamedBy tree text) entries → (name : Name)
@@ -77,7 +77,7 @@ module _ {V T : Type 0} (tree : V → T) (text : T → Name) where
       → AllByRecursion (IsNamedBy tree text) old → AllByRecursion (IsNamedBy tree text) new
   named_after old new key value (Ok x) ok err own was =
       subst (AllByRecursion (IsNamedBy tree text)) (sym ok)
-          (all_insert (λ x y. bytes_eq x.now y.now) key value (λ other same. sym ((bytes_eq-Decides key.now other.now).0 same)) own old was)
+      (all_insert (λ x y. bytes_eq x.now y.now) key value (λ other same. sym ((bytes_eq-Decides key.now other.now).0 same)) own old was)
   named_after old new key value (Err x) ok err own was = subst (AllByRecursion (IsNamedBy tree text)) (sym err) was
 
 pub absent : {A : Type 0} (found : Option A) → is_some found ≡ false → found ≡ None
@@ -101,7 +101,7 @@ declared_as-found [] keyed name = refl
 declared_as-found (entry ∷ entries) keyed name =
     ap (λ (key : Name). cond (bytes_eq name key) (Some (body_of entry.1)) (declared_as (aliases_in entries) name)) (sym keyed.0.key)
     ∙ first_or_other (bytes_eq name entry.0.now) entry.1 (declared_as (aliases_in entries) name) (lookup (λ key. bytes_eq name key.now) entries)
-        (declared_as-found entries keyed.1 name)
+    (declared_as-found entries keyed.1 name)
 
 -- an insertion adds at most one entry
 length_insert : {V : Type 0} (eq : Bor (List ℕ) → Bor (List ℕ) → Bool) (key : Bor (List ℕ)) (value : V) (entries : List (Bor (List ℕ) × V))

@@ -5,3 +5,4 @@ pub mod Entries
 pub mod Refusals
 pub mod Trying
 pub mod Declaring
+pub mod Collecting

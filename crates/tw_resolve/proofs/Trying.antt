@@ -1,5 +1,5 @@
 -- Calls that try demands, one after the other.
-use Rattle.std.proofs.Common.{◌≡◌, ◌∙◌, List, [], ◌∷◌, ◌++◌, Option, Some, None, Result, Ok, Err, IsErrAnd, subst, sym, refl}
+use Rattle.std.proofs.Common.{◌≡◌, ◌∙◌, List, ◌++◌, Option, None, Result, Ok, Err, IsErrAnd, subst, sym}
 use Rattle.tw_text.specs.declared.refusal.Fault.{Fault}
 use Rattle.tw_text.specs.declared.refusal.Fault.TheVariants as fault
 use Rattle.tw_text.specs.declared.refusal.Refusal.{Refusal}

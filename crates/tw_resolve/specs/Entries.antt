@@ -34,8 +34,8 @@ abbrev pub IsTarget : Bor (List ℕ) × Bor Written → Type 0
 IsTarget = IsNamedBy (λ written. written_tree written.now) type_print
 
 -- the targets of pointers
-abbrev pub targets_in : List (Bor (List ℕ) × Bor Written) → List WrittenTree
-targets_in entries = map (λ entry. written_tree entry.1.now) entries
+abbrev pub table_targets : List (Bor (List ℕ) × Bor Written) → List WrittenTree
+table_targets entries = map (λ entry. written_tree entry.1.now) entries
 
 -- the types of the declared names
 abbrev pub types_in : List (Bor (List ℕ) × SizedTy) → Name → Option Ty

@@ -54,7 +54,11 @@ impl<'a> AliasTable<'a> {
         ensures tried { Tries (different_rules (alias_texts (aliases_in self.old.table.entries)) (name_tree alias.now.name ∷ [])) result }
         ensures added { OnOk result (aliases_in self.new.table.entries ≡ aliases_in self.old.table.entries ++ alias_tree alias.now ∷ []) }
     {
-        need(!self.has(alias.name.text), Rule::DuplicateName, alias.name.at)?;
+        need(
+            !self.has(alias.name.text),
+            Rule::DuplicateName,
+            alias.name.at,
+        )?;
         self.put(alias)?;
         Ok(())
     }

@@ -9,6 +9,7 @@ mod names;
 mod sizes;
 mod tables;
 mod target_table;
+mod targets;
 mod type_table;
 mod written;
 

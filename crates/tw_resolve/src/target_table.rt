@@ -4,7 +4,7 @@ ghost use Rattle.std.specs.List.{AllByRecursion};
 ghost use Rattle.std.specs.Prelude.{◌≡◌, ◌∷◌, None, ◌++◌, ◌≤◌, [], length, option_map, IfOk, OnOk, OnErr, string_bytes};
 ghost use Rattle.tw_syntax.specs.Types.{type_print, written_tree};
 ghost use Rattle.tw_resolve.specs.Declarations.{target_number, with_target};
-ghost use Rattle.tw_resolve.specs.Entries.{IsTarget, targets_in};
+ghost use Rattle.tw_resolve.specs.Entries.{IsTarget, table_targets};
 
 use indexmap::IndexMap;
 use std::alloc::{AllocError, Global};
@@ -23,7 +23,7 @@ pub struct TargetTable<'a> {
 impl<'a> TargetTable<'a> {
     /// No targets.
     pub fn new(alloc: Global) -> TargetTable<'a>
-        ensures { targets_in result.table.entries ≡ [] }
+        ensures { table_targets result.table.entries ≡ [] }
     {
         TargetTable {
             table: IndexMap::new(alloc),
@@ -32,7 +32,7 @@ impl<'a> TargetTable<'a> {
 
     /// The number of the target that is written as this one.
     pub fn number_of(&self, alloc: Global, to: &Written) -> Result<Option<TargetId>, Fault>
-        ensures { IfOk result (λ number. option_map (λ id. id.0) number ≡ target_number (targets_in self.now.table.entries) (written_tree to.now)) }
+        ensures { IfOk result (λ number. option_map (λ id. id.0) number ≡ target_number (table_targets self.now.table.entries) (written_tree to.now)) }
     {
         let text = printed(alloc, to)?;
         match self.table.get_index_of(text.as_str()) {
@@ -43,8 +43,8 @@ impl<'a> TargetTable<'a> {
 
     /// Adds a target that is written as no other. An error: out of memory, or there are 4,294,967,295 targets.
     fn put(&mut self, alloc: Global, arena: &'a Arena, to: &'a Written<'a>) -> Result<(), Fault>
-        requires new { target_number (targets_in self.old.table.entries) (written_tree to.now) ≡ None }
-        ensures { OnOk result (targets_in self.new.table.entries ≡ targets_in self.old.table.entries ++ written_tree to.now ∷ []) }
+        requires new { target_number (table_targets self.old.table.entries) (written_tree to.now) ≡ None }
+        ensures { OnOk result (table_targets self.new.table.entries ≡ table_targets self.old.table.entries ++ written_tree to.now ∷ []) }
     {
         if self.table.len() >= 4_294_967_295 {
             return Err(Fault::Memory);
@@ -57,7 +57,7 @@ impl<'a> TargetTable<'a> {
 
     /// Adds a target, if none is written as it is. An error: out of memory, or there are 4,294,967,295 targets.
     pub fn add(&mut self, alloc: Global, arena: &'a Arena, to: &'a Written<'a>) -> Result<(), Fault>
-        ensures { OnOk result (targets_in self.new.table.entries ≡ with_target (targets_in self.old.table.entries) (written_tree to.now)) }
+        ensures { OnOk result (table_targets self.new.table.entries ≡ with_target (table_targets self.old.table.entries) (written_tree to.now)) }
     {
         match self.number_of(alloc, to)? {
             Some(_) => Ok(()),

@@ -1,5 +1,3 @@
-use Rattle.tw_resolve.specs.Declarations.{aliases_of, declared_as}
-use Rattle.tw_resolve.specs.Entries.{aliases_in}
 use Rattle.tw_resolve.proofs.Declaring.{known_next, known_until}
 use Rattle.tw_resolve.proofs.Trying.{stopped}
 use Rattle.tw_resolve.proofs.names.aliases_known.Goals as goal

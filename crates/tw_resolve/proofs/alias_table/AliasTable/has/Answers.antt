@@ -1,4 +1,4 @@
-use Rattle.std.proofs.Common.{◌≡◌, ◌∙◌, sym}
+use Rattle.std.proofs.Common.{◌∙◌, sym}
 use Rattle.tw_resolve.proofs.Entries.{is_one_of-found}
 use Rattle.tw_resolve.proofs.alias_table.AliasTable.has.Goals as goal
 

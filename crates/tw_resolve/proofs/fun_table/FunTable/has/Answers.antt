@@ -1,4 +1,4 @@
-use Rattle.std.proofs.Common.{◌≡◌, ◌∙◌, sym}
+use Rattle.std.proofs.Common.{◌∙◌, sym}
 use Rattle.tw_resolve.proofs.Entries.{is_one_of-found}
 use Rattle.tw_resolve.proofs.fun_table.FunTable.has.Goals as goal
 

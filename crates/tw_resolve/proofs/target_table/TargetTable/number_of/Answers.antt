@@ -1,5 +1,4 @@
-use denote.Bor.{Bor}
-use Rattle.std.proofs.Common.{◌≡◌, ◌∙◌, ℕ, List, ap, sym, position, bytes_eq}
+use Rattle.std.proofs.Common.{◌∙◌, ℕ, List, ap, sym, position, bytes_eq}
 use Rattle.std.specs.Map.{keys_of}
 use Rattle.tw_syntax.specs.Types.{written_tree, type_print}
 use Rattle.tw_resolve.proofs.Entries.{position_of_text}
