@@ -6,3 +6,4 @@ pub mod Refusals
 pub mod Trying
 pub mod Declaring
 pub mod Collecting
+pub mod Numbered
