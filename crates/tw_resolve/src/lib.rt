@@ -3,6 +3,7 @@
 #![tactic(auto)]
 
 mod alias_table;
+mod declare;
 mod demand;
 mod fun_table;
 mod names;

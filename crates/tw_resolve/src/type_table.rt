@@ -1,7 +1,7 @@
 //! The types of the declared names.
 ghost use Rattle.std.proofs.Props.{props};
 ghost use Rattle.std.specs.List.{AllByRecursion};
-ghost use Rattle.std.specs.Prelude.{◌≡◌, None, Some, option_map, IfSome, OnOk};
+ghost use Rattle.std.specs.Prelude.{◌≡◌, [], None, Some, option_map, IfSome, OnOk};
 ghost use Rattle.std.specs.Str.{bytes_eq};
 ghost use Rattle.tw_types.specs.FromCode.{ty_of};
 ghost use Rattle.tw_resolve.specs.Entries.{types_in};
@@ -22,6 +22,17 @@ pub struct TypeTable<'a> {
 }
 
 impl<'a> TypeTable<'a> {
+    /// No types.
+    pub fn new(alloc: Global, widths: Widths) -> TypeTable<'a>
+        ensures none { result.table.entries ≡ [] }
+        ensures widths { result.widths ≡ widths }
+    {
+        TypeTable {
+            widths,
+            table: IndexMap::new(alloc),
+        }
+    }
+
     /// The widths of words and addresses.
     pub fn widths(&self) -> Widths
         ensures { result ≡ self.now.widths }
