@@ -9,3 +9,4 @@ pub mod Programs
 pub mod Sizes
 pub mod Entries
 pub mod Tables
+pub mod Variables

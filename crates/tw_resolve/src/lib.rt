@@ -3,12 +3,17 @@
 #![tactic(auto)]
 
 mod alias_table;
+mod atoms;
 mod demand;
 mod fun_table;
+mod paths;
 mod sizes;
 mod tables;
 mod target_table;
+mod ty_sizes;
+mod type_rules;
 mod type_table;
+mod variables;
 mod written;
 
 pub use demand::need;
