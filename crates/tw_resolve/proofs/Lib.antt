@@ -1,9 +1,12 @@
+pub mod Declaring
 pub mod Demands
 pub mod Denoting
 pub mod Each
 pub mod Entries
+pub mod Parts
 pub mod Refusals
 pub mod Trying
-pub mod Declaring
+pub mod Ending
+pub mod InOrder
 pub mod Collecting
 pub mod Numbered

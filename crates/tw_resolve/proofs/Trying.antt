@@ -1,33 +1,33 @@
--- Calls that try demands, one after the other.
-use Rattle.std.proofs.Common.{◌≡◌, ◌∙◌, List, ◌++◌, Option, None, Result, Ok, Err, IsErrAnd, subst, sym}
+-- Calls that try demands one after the other.
+use Rattle.std.proofs.Common.{◌≡◌, Bool, true, false, if◌then◌else◌, List, [], ◌∷◌, ◌++◌, Option, Some, None, Result, Ok, Err, sym, refl}
+use Rattle.std.specs.Result.{IsErrAnd}
 use Rattle.tw_text.specs.declared.refusal.Fault.{Fault}
 use Rattle.tw_text.specs.declared.refusal.Fault.TheVariants as fault
 use Rattle.tw_text.specs.declared.refusal.Refusal.{Refusal}
 use Rattle.tw_resolve.specs.Demands.{Demand, first_broken, IsReported, Tries}
 use Rattle.tw_resolve.proofs.Demands.{first_broken-after_none, first_broken-before}
 
--- a fault that reports the first demands reports them with others behind
-pub reported_before : (xs ys : List Demand) (why : Fault) → IsReported (first_broken xs) why → IsReported (first_broken (xs ++ ys)) why
+-- what a fault reports of demands, it reports of these and more
+reported_before : (xs ys : List Demand) (fault : Fault) → IsReported (first_broken xs) fault → IsReported (first_broken (xs ++ ys)) fault
 reported_before xs ys (fault.Refused refusal) is = first_broken-before xs ys refusal is
 reported_before xs ys fault.Memory is = tt
 
--- a call that ends with the fault of a call before it
-pub stopped : {A : Type 0} (demands : List Demand) (why : Fault) → IsReported (first_broken demands) why → (result : Result A Fault)
-    → IsErrAnd result (λ other. other ≡ why) → Tries demands result
-stopped demands why is (Ok x) ends = absurd ends
-stopped demands why is (Err other) ends = record { kept = tt; reported = subst (IsReported (first_broken demands)) (sym ends) is }
+-- the first demands are tried, and a fault ends the call
+pub stopped : {A B : Type 0} (xs ys : List Demand) (fault : Fault) (result : Result B Fault)
+    → Tries {A = A} xs (Err fault) → IsErrAnd result (λ e. e ≡ fault) → Tries (xs ++ ys) result
+stopped xs ys fault (Err e) tries is = record { kept = tt; reported = rw is (reported_before xs ys fault tries.reported) }
+stopped xs ys fault (Ok x) tries is = absurd is
 
-pub stopped_before : {A : Type 0} (xs ys : List Demand) (why : Fault) → IsReported (first_broken xs) why → (result : Result A Fault)
-    → IsErrAnd result (λ other. other ≡ why) → Tries (xs ++ ys) result
-stopped_before xs ys why is result ends = stopped (xs ++ ys) why (reported_before xs ys why is) result ends
+-- the first demands hold, and then the others are tried
+pub then_tried : {A B : Type 0} (xs ys : List Demand) (x : A) (result : Result B Fault)
+    → Tries xs (Ok x) → Tries ys result → Tries (xs ++ ys) result
+then_tried xs ys x (Err e) first rest = record { kept = tt; reported = rw (first_broken-after_none xs ys first.kept) rest.reported }
+then_tried xs ys x (Ok y) first rest = record { kept = rw (first_broken-after_none xs ys first.kept) rest.kept; reported = tt }
 
--- after demands that hold, a call that tries the rest tries all
-pub went_on : {A : Type 0} (xs ys : List Demand) (result : Result A Fault) → first_broken xs ≡ None → Tries ys result → Tries (xs ++ ys) result
-went_on xs ys (Ok x) none tries = record { kept = first_broken-after_none xs ys none ∙ tries.kept; reported = tt }
-went_on xs ys (Err why) none tries =
-    record { kept = tt; reported = subst (λ (broken : Option Refusal). IsReported broken why) (sym (first_broken-after_none xs ys none)) tries.reported }
+-- memory may run out at any time
+pub out_of_memory : {B : Type 0} (xs : List Demand) (result : Result B Fault) → IsErrAnd result (λ e. e ≡ fault.Memory) → Tries xs result
+out_of_memory xs (Err fault.Memory) is = record { kept = tt; reported = tt }
+out_of_memory xs (Err (fault.Refused refusal)) is = absurd (cc is)
+out_of_memory xs (Ok x) is = absurd is
 
--- demands that are broken in the same way
-pub as_well : {A : Type 0} (xs ys : List Demand) (result : Result A Fault) → first_broken xs ≡ first_broken ys → Tries ys result → Tries xs result
-as_well xs ys (Ok x) same tries = record { kept = same ∙ tries.kept; reported = tt }
-as_well xs ys (Err why) same tries = record { kept = tt; reported = subst (λ (broken : Option Refusal). IsReported broken why) (sym same) tries.reported }
+pub ruleset trying = (stopped, then_tried, out_of_memory)

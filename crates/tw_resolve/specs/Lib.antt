@@ -11,3 +11,4 @@ pub mod Entries
 pub mod Tables
 pub mod Collects
 pub mod AliasTypes
+pub mod Variables

@@ -11,7 +11,12 @@ mod sizes;
 mod tables;
 mod target_table;
 mod targets;
+mod atoms;
+mod paths;
+mod ty_sizes;
+mod type_rules;
 mod type_table;
+mod variables;
 mod written;
 
 pub use demand::need;

@@ -9,7 +9,7 @@ ghost use Rattle.tw_resolve.specs.Entries.{IsTarget, table_targets};
 use indexmap::IndexMap;
 use std::alloc::{AllocError, Global};
 use tw_syntax::{Written, WrittenKind};
-use tw_text::{Arena, Fault};
+use tw_text::Arena;
 use tw_types::TargetId;
 
 /// The targets of pointers, each by its printed form, in the order in which they were first seen.
@@ -30,8 +30,8 @@ impl<'a> TargetTable<'a> {
         }
     }
 
-    /// The number of the target that is written as this one.
-    pub fn number_of(&self, alloc: Global, to: &Written) -> Result<Option<TargetId>, Fault>
+    /// The number of the target that is written as this one. An error: out of memory.
+    pub fn number_of(&self, alloc: Global, to: &Written) -> Result<Option<TargetId>, AllocError>
         ensures { IfOk result (λ number. option_map (λ id. id.0) number ≡ target_number (table_targets self.now.table.entries) (written_tree to.now)) }
     {
         let text = printed(alloc, to)?;
@@ -42,12 +42,12 @@ impl<'a> TargetTable<'a> {
     }
 
     /// Adds a target that is written as no other. An error: out of memory, or there are 4,294,967,295 targets.
-    fn put(&mut self, alloc: Global, arena: &'a Arena, to: &'a Written<'a>) -> Result<(), Fault>
+    fn put(&mut self, alloc: Global, arena: &'a Arena, to: &'a Written<'a>) -> Result<(), AllocError>
         requires new { target_number (table_targets self.old.table.entries) (written_tree to.now) ≡ None }
         ensures { OnOk result (table_targets self.new.table.entries ≡ table_targets self.old.table.entries ++ written_tree to.now ∷ []) }
     {
         if self.table.len() >= 4_294_967_295 {
-            return Err(Fault::Memory);
+            return Err(AllocError);
         }
         let text = printed(alloc, to)?;
         let key = arena.try_alloc_str(text.as_str())?;
@@ -56,7 +56,7 @@ impl<'a> TargetTable<'a> {
     }
 
     /// Adds a target, if none is written as it is. An error: out of memory, or there are 4,294,967,295 targets.
-    pub fn add(&mut self, alloc: Global, arena: &'a Arena, to: &'a Written<'a>) -> Result<(), Fault>
+    pub fn add(&mut self, alloc: Global, arena: &'a Arena, to: &'a Written<'a>) -> Result<(), AllocError>
         ensures { OnOk result (table_targets self.new.table.entries ≡ with_target (table_targets self.old.table.entries) (written_tree to.now)) }
     {
         match self.number_of(alloc, to)? {

@@ -9,11 +9,11 @@ ghost use Rattle.tw_resolve.specs.Entries.{table_targets};
 ghost use Rattle.tw_resolve.specs.Declarations.{targets_in, atom_targets, expr_targets, rhs_targets, stmt_targets, decl_targets, with_target};
 
 use crate::target_table::TargetTable;
-use std::alloc::Global;
+use std::alloc::{AllocError, Global};
 use tw_syntax::{
     Atom, AtomKind, Decl, Expr, ExprKind, No, Param, Rhs, Stmt, StmtKind, Written, WrittenKind,
 };
-use tw_text::{Arena, Fault};
+use tw_text::Arena;
 
 /// Adds the targets in a written type.
 #[tactic(auto, using(crate::proofs::Collecting::collects_none, crate::proofs::Collecting::collects_one, crate::proofs::Collecting::collects_then))]
@@ -22,7 +22,7 @@ fn add_inner<'a>(
     arena: &'a Arena,
     targets: &mut TargetTable<'a>,
     written: &'a Written<'a>,
-) -> Result<(), Fault>
+) -> Result<(), AllocError>
     ensures { OnOk result (Collects targets.old.table.entries targets.new.table.entries (targets_in (written_tree written.now))) }
 {
     match &written.kind {
@@ -48,7 +48,7 @@ fn add_target<'a>(
     arena: &'a Arena,
     targets: &mut TargetTable<'a>,
     to: &'a Written<'a>,
-) -> Result<(), Fault>
+) -> Result<(), AllocError>
     ensures { OnOk result (Collects targets.old.table.entries targets.new.table.entries (written_tree to.now ∷ targets_in (written_tree to.now))) }
 {
     targets.add(alloc, arena, to)?;
@@ -62,7 +62,7 @@ fn add_atom<'a>(
     arena: &'a Arena,
     targets: &mut TargetTable<'a>,
     atom: &'a Atom<'a>,
-) -> Result<(), Fault>
+) -> Result<(), AllocError>
     ensures { OnOk result (Collects targets.old.table.entries targets.new.table.entries (atom_targets (atom_tree atom.now))) }
 {
     match &atom.kind {
@@ -83,7 +83,7 @@ fn add_expr<'a>(
     arena: &'a Arena,
     targets: &mut TargetTable<'a>,
     expr: &'a Expr<'a>,
-) -> Result<(), Fault>
+) -> Result<(), AllocError>
     ensures { OnOk result (Collects targets.old.table.entries targets.new.table.entries (expr_targets (expr_tree expr.now))) }
 {
     match &expr.kind {
@@ -107,7 +107,7 @@ fn add_rhs<'a>(
     arena: &'a Arena,
     targets: &mut TargetTable<'a>,
     rhs: &'a Rhs<'a>,
-) -> Result<(), Fault>
+) -> Result<(), AllocError>
     ensures { OnOk result (Collects targets.old.table.entries targets.new.table.entries (rhs_targets (rhs_tree rhs.now))) }
 {
     match rhs {
@@ -124,7 +124,7 @@ fn add_stmts<'a>(
     arena: &'a Arena,
     targets: &mut TargetTable<'a>,
     stmts: &'a [Stmt<'a>],
-) -> Result<(), Fault>
+) -> Result<(), AllocError>
     ensures { OnOk result (Collects targets.old.table.entries targets.new.table.entries (stmt_targets (stmts_tree stmts.now))) }
 {
     for stmt in stmts {
@@ -140,7 +140,7 @@ fn add_else<'a>(
     arena: &'a Arena,
     targets: &mut TargetTable<'a>,
     no: &'a Option<No<'a>>,
-) -> Result<(), Fault>
+) -> Result<(), AllocError>
     ensures { OnOk result (Collects targets.old.table.entries targets.new.table.entries (stmt_targets (else_tree no.now))) }
 {
     match no {
@@ -156,7 +156,7 @@ fn add_stmt<'a>(
     arena: &'a Arena,
     targets: &mut TargetTable<'a>,
     stmt: &'a Stmt<'a>,
-) -> Result<(), Fault>
+) -> Result<(), AllocError>
     ensures { OnOk result (Collects targets.old.table.entries targets.new.table.entries (stmt_targets (stmt_tree stmt.now))) }
 {
     match &stmt.kind {
@@ -182,7 +182,7 @@ fn add_params<'a>(
     arena: &'a Arena,
     targets: &mut TargetTable<'a>,
     params: &'a [Param<'a>],
-) -> Result<(), Fault>
+) -> Result<(), AllocError>
     ensures { OnOk result (Collects targets.old.table.entries targets.new.table.entries (flat_map (λ param. targets_in param.ty) (map param_tree params.now))) }
 {
     for param in params {
@@ -198,7 +198,7 @@ fn add_decl<'a>(
     arena: &'a Arena,
     targets: &mut TargetTable<'a>,
     decl: &'a Decl<'a>,
-) -> Result<(), Fault>
+) -> Result<(), AllocError>
     ensures { OnOk result (Collects targets.old.table.entries targets.new.table.entries (decl_targets (decl_tree decl.now))) }
 {
     match decl {
@@ -216,7 +216,7 @@ pub fn collect_targets<'a>(
     alloc: Global,
     arena: &'a Arena,
     decls: &'a [Decl<'a>],
-) -> Result<TargetTable<'a>, Fault>
+) -> Result<TargetTable<'a>, AllocError>
     ensures { IfOk result (λ targets. table_targets targets.table.entries ≡ fold with_target [] (flat_map decl_targets (map decl_tree decls.now))) }
 {
     let mut targets = TargetTable::new(alloc);

@@ -1,6 +1,6 @@
 //! Types and their sizes.
 ghost use Rattle.std.specs.Prelude.{◌≡◌, ◌≤◌};
-ghost use Rattle.tw_types.specs.Types.{extent, size};
+ghost use Rattle.tw_types.specs.Types.{extent, same_ty, size};
 ghost use Rattle.tw_types.specs.FromCode.{ty_of};
 
 use crate::widths::Widths;
@@ -43,5 +43,21 @@ pub fn size_of(ty: &Ty, widths: Widths) -> u32
         Ty::Bool => 1,
         Ty::Ptr(_) => widths.addr,
         Ty::Pair(first, second) => size_of(first, widths) + size_of(second, widths),
+    }
+}
+
+/// Whether two types are the same.
+pub fn same_ty(x: &Ty, y: &Ty) -> bool
+    ensures { result ≡ same_ty (ty_of x.now) (ty_of y.now) }
+{
+    match (x, y) {
+        (Ty::Unit, Ty::Unit) => true,
+        (Ty::Uint, Ty::Uint) => true,
+        (Ty::Bool, Ty::Bool) => true,
+        (Ty::Ptr(target), Ty::Ptr(other)) => target.0 == other.0,
+        (Ty::Pair(first, second), Ty::Pair(other, last)) => {
+            same_ty(first, other) && same_ty(second, last)
+        }
+        _ => false,
     }
 }

@@ -2,7 +2,7 @@ use Rattle.tw_syntax.specs.Types.{written_tree}
 use Rattle.tw_resolve.specs.Declarations.{declared_as}
 use Rattle.tw_resolve.specs.Names.{declared_rules}
 use Rattle.tw_resolve.specs.Entries.{aliases_in}
-use Rattle.tw_resolve.proofs.Trying.{stopped_before, went_on}
+use Rattle.tw_resolve.proofs.Ending.{stopped_before, went_on}
 use Rattle.tw_resolve.proofs.names.+names_known.Goals as goal
 
 pub returns-in_err-names_known-in-Pair : goal.returns-in_err-names_known-in-Pair

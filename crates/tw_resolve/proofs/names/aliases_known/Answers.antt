@@ -1,5 +1,5 @@
-use Rattle.tw_resolve.proofs.Declaring.{known_next, known_until}
-use Rattle.tw_resolve.proofs.Trying.{stopped}
+use Rattle.tw_resolve.proofs.InOrder.{known_next, known_until}
+use Rattle.tw_resolve.proofs.Ending.{stopped}
 use Rattle.tw_resolve.proofs.names.aliases_known.Goals as goal
 
 pub returns-in_err-alias_known : goal.returns-in_err-alias_known

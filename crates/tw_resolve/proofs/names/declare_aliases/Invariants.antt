@@ -1,7 +1,7 @@
 use Rattle.std.proofs.Common.{drop, map}
 use Rattle.tw_syntax.specs.Programs.{decl_tree}
 use Rattle.tw_resolve.specs.Entries.{aliases_in}
-use Rattle.tw_resolve.proofs.Declaring.{DeclaringAliases}
+use Rattle.tw_resolve.proofs.InOrder.{DeclaringAliases}
 use Rattle.tw_resolve.proofs.names.declare_aliases.Given as goal
 
 abbrev pub invariant-loop-decl : goal.invariant-loop-decl

@@ -1,0 +1,47 @@
+//! The variables of a function.
+ghost use Rattle.std.specs.Prelude.{◌≡◌, None, OnOk, option_map};
+ghost use Rattle.tw_types.specs.FromCode.{ty_of};
+ghost use Rattle.tw_resolve.specs.Statements.{with_variable};
+ghost use Rattle.tw_resolve.specs.Variables.{variables_in};
+
+use indexmap::IndexMap;
+use std::alloc::{AllocError, Global};
+use tw_types::Ty;
+
+/// The variables of a function with their types, in the order in which they were declared.
+#[derive(Drop)]
+pub struct Variables<'a> {
+    pub table: IndexMap<&'a str, Ty<'a>>,
+}
+
+impl<'a> Variables<'a> {
+    /// No variables.
+    pub fn new(alloc: Global) -> Variables<'a>
+        ensures { variables_in result.table.entries ≡ (λ _. None) }
+    {
+        Variables {
+            table: IndexMap::new(alloc),
+        }
+    }
+
+    /// The type of a variable.
+    pub fn get(&self, name: &str) -> Option<Ty<'a>>
+        ensures { option_map ty_of result ≡ variables_in self.now.table.entries name.now }
+    {
+        self.table.get(name).copied()
+    }
+
+    /// Declares a variable, if its type is known. One that is there keeps its type. An error: out of memory.
+    pub fn add(&mut self, name: &'a str, found: Option<Ty<'a>>) -> Result<(), AllocError>
+        ensures { OnOk result (variables_in self.new.table.entries ≡ with_variable (variables_in self.old.table.entries) name.now (option_map ty_of found.entry)) }
+    {
+        let Some(ty) = found else {
+            return Ok(());
+        };
+        if self.table.contains_key(name) {
+            return Ok(());
+        }
+        self.table.insert(name, ty)?;
+        Ok(())
+    }
+}
