@@ -10,3 +10,4 @@ pub mod Ending
 pub mod InOrder
 pub mod Collecting
 pub mod Numbered
+pub mod NameRules
