@@ -11,3 +11,4 @@ pub mod InOrder
 pub mod Collecting
 pub mod Numbered
 pub mod NameRules
+pub mod Resolving

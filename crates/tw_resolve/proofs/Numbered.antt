@@ -1,7 +1,7 @@
 -- Each target of a program has a number.
-use Rattle.std.proofs.Common.{◌≡◌, ◌∙◌, ◌||◌, ◌++◌, ℕ, Bool, true, false, if◌then◌else◌, List, [], ◌∷◌, map, flat_map, fold, Option, Some, None, is_some, position, ap, sym, subst, refl, bytes_eq}
+use Rattle.std.proofs.Common.{◌≡◌, ◌∙◌, ◌++◌, Bool, true, false, if◌then◌else◌, List, [], ◌∷◌, map, flat_map, fold, Option, None, is_some, position, ap, sym, subst, refl, bytes_eq}
 use Rattle.std.specs.List.{AllByRecursion, list_any}
-use Rattle.std.specs.Map.{lookup, keys_of}
+use Rattle.std.specs.Map.{keys_of}
 use Rattle.std.proofs.lemmas.Bool.{or_left, or_right, and_from}
 use Rattle.std.proofs.lemmas.List.Folds.{list_any-append}
 use Rattle.std.proofs.lemmas.Map.Made.{is_some-lookup}
@@ -25,7 +25,7 @@ keys-paired (x ∷ xs) = ap (λ ys. x ∷ ys) (keys-paired xs)
 is_some-position : {X : Type 0} (p : X → Bool) (xs : List X) → is_some (position p xs) ≡ list_any p xs
 is_some-position {X} p xs =
     subst (λ (ys : List X). is_some (position p ys) ≡ list_any p ys) (keys-paired xs)
-        (some_index p (map (λ x. (x, x)) xs) ∙ is_some-lookup p (map (λ x. (x, x)) xs))
+    (some_index p (map (λ x. (x, x)) xs) ∙ is_some-lookup p (map (λ x. (x, x)) xs))
 
 -- a target that is there stays, and one that is added is there
 numbered_later : (targets : List WrittenTree) (other to : WrittenTree) → IsNumbered targets to → IsNumbered (with_target targets other) to
@@ -37,7 +37,7 @@ numbered_later targets other to is = by (is_some (target_number targets other)) 
         is_some-position (λ target. bytes_eq (type_print to) (type_print target)) (targets ++ other ∷ [])
         ∙ list_any-append (λ target. bytes_eq (type_print to) (type_print target)) targets (other ∷ [])
         ∙ or_left (list_any (λ target. bytes_eq (type_print to) (type_print target)) targets) (list_any (λ target. bytes_eq (type_print to) (type_print target)) (other ∷ []))
-            (sym (is_some-position (λ target. bytes_eq (type_print to) (type_print target)) targets) ∙ is)
+        (sym (is_some-position (λ target. bytes_eq (type_print to) (type_print target)) targets) ∙ is)
 
 numbered_now : (targets : List WrittenTree) (to : WrittenTree) → IsNumbered (with_target targets to) to
 numbered_now targets to = by (is_some (target_number targets to)) refl
@@ -48,7 +48,7 @@ numbered_now targets to = by (is_some (target_number targets to)) refl
         is_some-position (λ target. bytes_eq (type_print to) (type_print target)) (targets ++ to ∷ [])
         ∙ list_any-append (λ target. bytes_eq (type_print to) (type_print target)) targets (to ∷ [])
         ∙ or_right (list_any (λ target. bytes_eq (type_print to) (type_print target)) targets) (list_any (λ target. bytes_eq (type_print to) (type_print target)) (to ∷ []))
-            (or_left (bytes_eq (type_print to) (type_print to)) false ((bytes_eq-Decides (type_print to) (type_print to)).1 refl))
+        (or_left (bytes_eq (type_print to) (type_print to)) false ((bytes_eq-Decides (type_print to) (type_print to)).1 refl))
 
 -- all that were added are there
 numbered_after : (more targets : List WrittenTree) (to : WrittenTree) → IsNumbered targets to → IsNumbered (fold with_target targets more) to
@@ -80,15 +80,16 @@ names_if_kept declared (NamedType at name) each = each.0
 names_if_kept declared (PtrType at to) each = names_if_kept declared to each
 names_if_kept declared (PairType at first second) each =
     and_from (names_declared declared first) (names_declared declared second)
-        (names_if_kept declared first (each_first Holds (declared_rules declared first) (declared_rules declared second) each))
-        (names_if_kept declared second (each_rest Holds (declared_rules declared first) (declared_rules declared second) each))
+    (names_if_kept declared first (each_first Holds (declared_rules declared first) (declared_rules declared second) each))
+    (names_if_kept declared second (each_rest Holds (declared_rules declared first) (declared_rules declared second) each))
 
 all_names_if_kept : (declared : Name → Option WrittenTree) (aliases : List AliasTree) → EachHolds (aliases_rules declared aliases)
     → AllByRecursion (λ alias. names_declared declared alias.body ≡ true) aliases
 all_names_if_kept declared [] each = tt
-all_names_if_kept declared (alias ∷ aliases) each =
-    (names_if_kept declared alias.body (each_first Holds (declared_rules declared alias.body) (aliases_rules declared aliases) each),
-    all_names_if_kept declared aliases (each_rest Holds (declared_rules declared alias.body) (aliases_rules declared aliases) each))
+all_names_if_kept declared (alias ∷ aliases) each = (
+  names_if_kept declared alias.body (each_first Holds (declared_rules declared alias.body) (aliases_rules declared aliases) each),
+  all_names_if_kept declared aliases (each_rest Holds (declared_rules declared alias.body) (aliases_rules declared aliases) each),
+)
 
 -- both hold of each alias
 both : (scope : Scope) (aliases : List AliasTree) → AllByRecursion (λ alias. names_declared scope.declared alias.body ≡ true) aliases
@@ -102,5 +103,5 @@ pub aliases_resolved : (program : ProgramTree) → first_broken (aliases_rules (
 aliases_resolved program none =
     let declared = declared_as (aliases_of program.decls) in
     both (scope_of program) (aliases_of program.decls)
-        (all_names_if_kept declared (aliases_of program.decls) ((none_broken-each (aliases_rules declared (aliases_of program.decls))).1 none))
-        (aliases_numbered program)
+    (all_names_if_kept declared (aliases_of program.decls) ((none_broken-each (aliases_rules declared (aliases_of program.decls))).1 none))
+    (aliases_numbered program)

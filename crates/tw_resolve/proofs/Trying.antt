@@ -1,9 +1,8 @@
 -- Calls that try demands one after the other.
-use Rattle.std.proofs.Common.{◌≡◌, Bool, true, false, if◌then◌else◌, List, [], ◌∷◌, ◌++◌, Option, Some, None, Result, Ok, Err, sym, refl}
+use Rattle.std.proofs.Common.{◌≡◌, List, ◌++◌, Result, Ok, Err}
 use Rattle.std.specs.Result.{IsErrAnd}
 use Rattle.tw_text.specs.declared.refusal.Fault.{Fault}
 use Rattle.tw_text.specs.declared.refusal.Fault.TheVariants as fault
-use Rattle.tw_text.specs.declared.refusal.Refusal.{Refusal}
 use Rattle.tw_resolve.specs.Demands.{Demand, first_broken, IsReported, Tries}
 use Rattle.tw_resolve.proofs.Demands.{first_broken-after_none, first_broken-before}
 

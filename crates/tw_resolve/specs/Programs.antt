@@ -2,6 +2,8 @@
 use Rattle.std.specs.Prelude.{◌≡◌, ◌⊎◌, ℕ, suc, not, if◌then◌else◌, List, [], ◌∷◌, ◌++◌, map, flat_map, Option, Some, None, is_some}
 use Rattle.std.specs.List.{AllByRecursion}
 use Rattle.std.specs.Str.{bytes_eq}
+use Rattle.tw_text.specs.declared.refusal.Fault.{Fault}
+use Rattle.tw_text.specs.declared.refusal.Fault.TheVariants as fault
 use Rattle.tw_text.specs.declared.refusal.Refusal.{Refusal}
 use Rattle.tw_text.specs.declared.refusal.Rule.TheVariants as rule
 use Rattle.tw_text.specs.Refusals.{broken}
@@ -96,3 +98,8 @@ pub data IsRefused (widths : Widths) (program : ProgramTree) : Refusal → Type 
       → AreTypes (scope_of program) types
       → first_broken (type_rules (setting_of widths program types) (aliases_of program.decls)) ≡ Some refusal
       → IsRefused widths program refusal
+
+-- a fault is the refusal of a program; memory may run out at any time
+abbrev pub IsRefusedWith : Widths → ProgramTree → Fault → Type 0
+IsRefusedWith widths program (fault.Refused refusal) = IsRefused widths program refusal
+IsRefusedWith widths program fault.Memory = Unit {0}

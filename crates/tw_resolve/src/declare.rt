@@ -16,7 +16,12 @@ use tw_types::Widths;
 
 /// The tables of a program, without types yet. Refused at the first name that is declared twice or is not declared.
 #[tactic(auto, using(crate::proofs::Trying::trying))]
-pub fn declare<'a>(alloc: Global, arena: &'a Arena, program: &'a Program<'a>, widths: Widths) -> Result<Tables<'a>, Fault>
+pub fn declare<'a>(
+    alloc: Global,
+    arena: &'a Arena,
+    program: &'a Program<'a>,
+    widths: Widths,
+) -> Result<Tables<'a>, Fault>
     ensures tried { Tries (name_rules (program_tree program.now)) result }
     ensures tables { IfOk result (AreTablesOf (program_tree program.now) widths) }
     ensures none { IfOk result (λ tables. tables.types.table.entries ≡ []) }

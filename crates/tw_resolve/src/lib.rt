@@ -3,16 +3,16 @@
 #![tactic(auto)]
 
 mod alias_table;
+mod atoms;
 mod declare;
 mod demand;
 mod fun_table;
 mod names;
+mod paths;
 mod sizes;
 mod tables;
 mod target_table;
 mod targets;
-mod atoms;
-mod paths;
 mod ty_sizes;
 mod type_rules;
 mod type_table;

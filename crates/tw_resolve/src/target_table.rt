@@ -42,7 +42,12 @@ impl<'a> TargetTable<'a> {
     }
 
     /// Adds a target that is written as no other. An error: out of memory, or there are 4,294,967,295 targets.
-    fn put(&mut self, alloc: Global, arena: &'a Arena, to: &'a Written<'a>) -> Result<(), AllocError>
+    fn put(
+        &mut self,
+        alloc: Global,
+        arena: &'a Arena,
+        to: &'a Written<'a>,
+    ) -> Result<(), AllocError>
         requires new { target_number (table_targets self.old.table.entries) (written_tree to.now) ≡ None }
         ensures { OnOk result (table_targets self.new.table.entries ≡ table_targets self.old.table.entries ++ written_tree to.now ∷ []) }
     {
@@ -56,7 +61,12 @@ impl<'a> TargetTable<'a> {
     }
 
     /// Adds a target, if none is written as it is. An error: out of memory, or there are 4,294,967,295 targets.
-    pub fn add(&mut self, alloc: Global, arena: &'a Arena, to: &'a Written<'a>) -> Result<(), AllocError>
+    pub fn add(
+        &mut self,
+        alloc: Global,
+        arena: &'a Arena,
+        to: &'a Written<'a>,
+    ) -> Result<(), AllocError>
         ensures { OnOk result (table_targets self.new.table.entries ≡ with_target (table_targets self.old.table.entries) (written_tree to.now)) }
     {
         match self.number_of(alloc, to)? {

@@ -18,9 +18,9 @@ pub returns-in_err-aliases_known-clause-tried : goal.returns-in_err-aliases_know
 returns-in_err-aliases_known-clause-tried c =
     let why = c.in_err-aliases_known.field-0.0 in
     stopped _ why
-        (reports_name (program_tree c.args.program.now) why (aliases_in c.in_ok-aliases.aliases.table.entries) c.in_ok-aliases.ensures.table
-            c.in_ok-aliases.ensures.tried.kept c.in_ok-funs.ensures.tried.kept c.in_err-aliases_known.ensures.reported)
-        c.from_residual-in_err-aliases_known.result c.from_residual-in_err-aliases_known.ensures.1
+    (reports_name (program_tree c.args.program.now) why (aliases_in c.in_ok-aliases.aliases.table.entries) c.in_ok-aliases.ensures.table
+    c.in_ok-aliases.ensures.tried.kept c.in_ok-funs.ensures.tried.kept c.in_err-aliases_known.ensures.reported)
+    c.from_residual-in_err-aliases_known.result c.from_residual-in_err-aliases_known.ensures.1
 
 pub returns-clause-tried : goal.returns-clause-tried
 returns-clause-tried c = record {
