@@ -9,3 +9,13 @@ pub mod Undoable
 pub mod RightStatements
 pub mod RightExactly
 pub mod RightExamples
+pub mod Walking
+pub mod Tables
+pub mod Prefixes
+pub mod Lists
+pub mod Parameters
+pub mod Notes
+pub mod Sizes
+pub mod Withs
+pub mod Branches
+pub mod Functions

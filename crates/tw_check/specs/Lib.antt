@@ -4,3 +4,4 @@ pub mod Liveness
 pub mod Right
 pub mod Rules
 pub mod Examples
+pub mod Walks
