@@ -7,3 +7,4 @@ pub mod reading
 pub mod code
 pub mod Sources
 pub mod Elsewhere
+pub mod Worked
