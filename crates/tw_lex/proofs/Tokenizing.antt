@@ -3,7 +3,7 @@ use Rattle.std.proofs.Common.{◌≡◌, ℕ, ◌+◌, ◌-◌, ◌*◌, ◌^◌
 use Rattle.std.proofs.lemmas.Bool.{and_parts}
 use Rattle.std.proofs.lemmas.Bool.Decides.{nat_tests}
 use Rattle.std.proofs.lemmas.Slice.Eq.{bytes_eq-Decides}
-use Rattle.std.specs.List.{list_all}
+use Rattle.std.specs.List.{list_all, take_while}
 use Rattle.std.specs.Char.{is_ascii_digit}
 use Rattle.std.specs.Str.{bytes_eq}
 use Rattle.unicode_ident.specs.Ident.{is_xid_continue}
@@ -13,11 +13,6 @@ use Rattle.tw_lex.specs.declared.symbol.Symbol.{Symbol}
 use Rattle.tw_lex.specs.Symbols.{symbol_text, is_keyword, starts_with, symbols_from, begins, find_front}
 use Rattle.tw_lex.specs.Tokens.{Lexed, Piece, Blank, Comment, Letters, Digits, Operator, piece_text, piece_tokens, is_blank, starts_name, is_in_line, Stands, HasTokens}
 use Rattle.tw_lex.proofs.SymbolTexts.{find_front-longest}
-
--- the longest run of characters that pass the test
-abbrev run_of : (ℕ → Bool) → List ℕ → List ℕ
-run_of test [] = []
-run_of test (c ∷ cs) = if test c then c ∷ run_of test cs else []
 
 -- the number that these digits continue
 abbrev value_of : ℕ → List ℕ → ℕ
@@ -29,9 +24,9 @@ abbrev piece_of : List ℕ → Option Piece
 piece_of [] = None
 piece_of (c ∷ cs) =
     if is_blank c then Some (Blank c) else (
-    if begins (codes "//") (c ∷ cs) then Some (Comment (run_of is_in_line (drop 1 cs))) else (
-    if starts_name c then Some (Letters c (run_of is_xid_continue cs)) else (
-    if is_ascii_digit c then Some (Digits (value_of 0 (run_of is_ascii_digit (c ∷ cs)))) else option_map Operator (find_front (symbols_from c) (c ∷ cs)))))
+    if begins (codes "//") (c ∷ cs) then Some (Comment (take_while is_in_line (drop 1 cs))) else (
+    if starts_name c then Some (Letters c (take_while is_xid_continue cs)) else (
+    if is_ascii_digit c then Some (Digits (value_of 0 (take_while is_ascii_digit (c ∷ cs)))) else option_map Operator (find_front (symbols_from c) (c ∷ cs)))))
 
 -- whether the symbol is the longest that begins a text
 abbrev is_same : Symbol → Option Symbol → Bool
