@@ -1,5 +1,6 @@
 -- Tokens with the same words are a program of the same tree, places aside.
 use Rattle.std.proofs.Common.{◌≡◌, refl, ap, sym, ◌∙◌, suc, List, [], ◌∷◌, map, length}
+use Rattle.tw_text.specs.declared.limits.TheConstants.{NESTING_LIMIT}
 use Rattle.tw_syntax.specs.Unplaced.{no_place, unplaced_decl, unplaced_program}
 use Rattle.tw_syntax.specs.Programs.{ProgramTree}
 use Rattle.tw_lex.specs.Tokens.{Lexeme, Lexed}
@@ -42,7 +43,7 @@ words-run (t ∷ ts) (u ∷ us) e =
     λ i room st. went (move (first_word e i) st) room (behind i) (suc (left i))
 
 pub words-verdict : (toks others : List Lexed) → lexemes_of toks ≡ lexemes_of others → verdict toks ≡ verdict others
-words-verdict toks others e = λ i. words-run toks others e i 64 (Expected.Decl' ∷ [])
+words-verdict toks others e = λ i. words-run toks others e i NESTING_LIMIT (Expected.Decl' ∷ [])
 
 -- without their places tokens are what their words are
 pub words-unplaced : (toks others : List Lexed) → lexemes_of toks ≡ lexemes_of others → map unplaced_tok toks ≡ map unplaced_tok others

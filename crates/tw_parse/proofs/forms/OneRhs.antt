@@ -4,7 +4,7 @@ use Rattle.std.proofs.Math.Bridge.{le_prop}
 use Rattle.tw_text.specs.declared.place.Pos.{Pos}
 use Rattle.tw_lex.specs.declared.symbol.Symbol.TheVariants as symbols
 use Rattle.tw_lex.specs.Tokens.{Number, Lexed, name_at, sign_at}
-use Rattle.tw_parse.specs.Grammar.{StepsForm, steps_text, AtomForm, atom_text, OpForm, op_symbol, ExprForm, expr_text, BoundForm, bound_text, CallBoundForm, call_bound_text, NamesForm, names_text, MoreNamesForm, more_names_text, RhsForm, rhs_text}
+use Rattle.tw_parse.specs.Grammar.{TypeForm, StepsForm, steps_text, AtomForm, atom_text, OpForm, op_symbol, ExprForm, expr_text, BoundForm, bound_text, CallBoundForm, call_bound_text, NamesForm, names_text, MoreNamesForm, more_names_text, RhsForm, rhs_text}
 use Rattle.tw_parse.proofs.forms.OneExpr.{same, name-same, Lacks, begins, type-same, atom-not, EndsExpr, expr-same}
 
 fixed-same : (p q : Pos) (x y : ℕ) (small : x ≤ 255) (other : y ≤ 255) → p ≡ q → x ≡ y → BoundForm.Fixed p x small ≡ BoundForm.Fixed q y other
@@ -103,10 +103,8 @@ call-not_expr (CallBoundForm.Bound b bound o) c p name q x k ends e = let h = ex
 pub rhs-same : (c d : RhsForm) (k l : List Lexed) → EndsCall k → EndsCall l → rhs_text c k ≡ rhs_text d l → (c ≡ d) × (k ≡ l)
 rhs-same (RhsForm.Alloc p q of r) (RhsForm.Alloc p' q' of' r') k l hk hl e =
     let first = same e in
-    let less = same first.rest in
-    let inner = type-same of of' (sign_at symbols.Greater r ∷ k) (sign_at symbols.Greater r' ∷ l) less.rest in
-    let last = same inner.1 in
-    (cc (first.at, less.at, inner.0, last.at), last.rest)
+    let inner = type-same (TypeForm.Ptr p q of r) (TypeForm.Ptr p q' of' r') k l (ap (λ ts. sign_at symbols.Ptr p ∷ ts) first.rest) in
+    (cc (first.at, inner.0), inner.1)
 rhs-same (RhsForm.Call p x bound q args r) (RhsForm.Call p' y bound' q' args' r') k l hk hl e =
     let name = same e in
     let paren = call_bound-same bound bound' q q' (names_text args (sign_at symbols.CloseParen r ∷ k)) (names_text args' (sign_at symbols.CloseParen r' ∷ l)) name.rest in

@@ -1,5 +1,6 @@
 -- Which tokens may stand next: a stack of what is still awaited, and what the next token makes of it.
 use Rattle.std.specs.Prelude.{◌≡◌, refl, ℕ, zero, suc, Bool, true, false, List, [], ◌∷◌, length, codes}
+use Rattle.tw_text.specs.declared.limits.TheConstants.{NESTING_LIMIT}
 use Rattle.tw_text.specs.declared.place.Pos.{Pos}
 use Rattle.tw_lex.specs.declared.symbol.Symbol.{Symbol}
 use Rattle.tw_lex.specs.declared.symbol.Symbol.TheVariants as symbols
@@ -266,7 +267,7 @@ run (t ∷ ts) room st = went (move t.lexeme st) room (run ts) (suc (length ts))
 
 -- what the tokens of a whole text come to
 abbrev pub verdict : List Lexed → Outcome
-verdict toks = run toks 64 (Decl' ∷ [])
+verdict toks = run toks NESTING_LIMIT (Decl' ∷ [])
 
 abbrev pub here : Pos
 here = record { line = 1; col = 1 }

@@ -1,5 +1,6 @@
 -- The machine's outcome is what the grammar says of the tokens, and each text has one.
 use Rattle.std.proofs.Common.{◌≡◌, refl, ℕ, suc, ◌+◌, ◌≤◌, List, [], ◌∷◌, ◌++◌, length, append_assoc, append-nil, ap, ◌∙◌, sym, subst, false, ◌↔◌, length-append, Some, arith}
+use Rattle.tw_text.specs.declared.limits.TheConstants.{NESTING_LIMIT}
 use Rattle.tw_lex.specs.Tokens.{Lexed, sign_at}
 use Rattle.tw_parse.specs.Prefixes.{IsProgram, IsOpen, IsEnd, IsShallow, depth, IsSyntaxAt, IsTooDeepAt}
 use Rattle.tw_parse.proofs.machine.Automaton.{Expected, Outcome, Accept, Fail, Deep, at_end, verdict, here, alias, nested, verdict_no_type, verdict_65}
@@ -9,7 +10,7 @@ use Rattle.tw_parse.proofs.machine.Forests.{program}
 use Rattle.tw_parse.proofs.machine.Halts.{IsStuck, Accepted, Failed, Deepened, Halted, halted}
 use Rattle.tw_parse.proofs.machine.Fronts.{start, walk-append, walk-program, open_of_walk, open-front, open-program, Parted, parted}
 
-accepted : (toks : List Lexed) → Accepted 64 false toks start → IsProgram toks × IsShallow toks
+accepted : (toks : List Lexed) → Accepted NESTING_LIMIT false toks start → IsProgram toks × IsShallow toks
 accepted toks h = (program toks h.rest h.taken h.end, h.shallow)
 
 ends : (front back : List Lexed) (rest : List Expected) → walk front start ≡ Some rest → IsStuck back rest → IsEnd front back
@@ -23,7 +24,7 @@ ends front (t ∷ ts) rest taken stuck = λ h.
     ap (λ x. walk x start) (append_assoc front (t ∷ []) h.0) ∙ walk-append front (t ∷ h.0) start rest taken in
     cc (whole, behind, stuck h.0)
 
-failed : (toks : List Lexed) (left : ℕ) → Failed 64 false toks start left → IsSyntaxAt toks left
+failed : (toks : List Lexed) (left : ℕ) → Failed NESTING_LIMIT false toks start left → IsSyntaxAt toks left
 failed toks left h = record {
   front = h.front;
   back = h.back;
@@ -34,7 +35,7 @@ failed toks left h = record {
   at = ends h.front h.back h.rest h.taken h.stuck;
 }
 
-deepened : (toks : List Lexed) (left : ℕ) → Deepened 64 false toks start left → IsTooDeepAt toks left
+deepened : (toks : List Lexed) (left : ℕ) → Deepened NESTING_LIMIT false toks start left → IsTooDeepAt toks left
 deepened toks left h = record {
   front = h.front;
   next = h.bad;
@@ -53,9 +54,9 @@ Means toks (Fail left) = IsSyntaxAt toks left
 Means toks (Deep left) = IsTooDeepAt toks left
 
 pub verdict-means : (toks : List Lexed) → Means toks (verdict toks)
-verdict-means toks = go (verdict toks) (halted 64 false toks 64 start refl (omega arith))
+verdict-means toks = go (verdict toks) (halted NESTING_LIMIT false toks NESTING_LIMIT start refl (omega arith))
   where
-    go : (outcome : Outcome) → Halted 64 false toks start outcome → Means toks outcome
+    go : (outcome : Outcome) → Halted NESTING_LIMIT false toks start outcome → Means toks outcome
     go Accept h = accepted toks h
     go (Fail left) h = failed toks left h
     go (Deep left) h = deepened toks left h
@@ -73,7 +74,7 @@ program-not_syntax toks left h s = go s.back s.parts s.at
 
 pub shallow-not_deep : (toks : List Lexed) (left : ℕ) → IsShallow toks → IsTooDeepAt toks left → ⊥
 shallow-not_deep toks left h d =
-    let within : depth (d.front ++ d.next ∷ []) ≤ 64 = h (d.front ++ d.next ∷ []) d.back (d.parts ∙ sym (append_assoc d.front (d.next ∷ []) d.back)) in
+    let within : depth (d.front ++ d.next ∷ []) ≤ NESTING_LIMIT = h (d.front ++ d.next ∷ []) d.back (d.parts ∙ sym (append_assoc d.front (d.next ∷ []) d.back)) in
     omega (arith, d.deeper, within)
 
 -- no front that is open reaches beyond where the tokens go wrong
@@ -102,7 +103,7 @@ syntax-same toks left other s u =
 pub syntax-not_deep : (toks : List Lexed) (left other : ℕ) → IsSyntaxAt toks left → IsTooDeepAt toks other → ⊥
 syntax-not_deep toks left other s d =
     let within = ends_within toks left s (d.front ++ d.next ∷ []) d.back (d.parts ∙ sym (append_assoc d.front (d.next ∷ []) d.back)) d.open_with in
-    let shallow : depth (d.front ++ d.next ∷ []) ≤ 64 = s.shallow (d.front ++ d.next ∷ []) within.0 within.1 in
+    let shallow : depth (d.front ++ d.next ∷ []) ≤ NESTING_LIMIT = s.shallow (d.front ++ d.next ∷ []) within.0 within.1 in
     omega (arith, d.deeper, shallow)
 
 deep-least : (toks : List Lexed) (left other : ℕ) → IsTooDeepAt toks left → IsTooDeepAt toks other → left ≤ other
@@ -110,7 +111,7 @@ deep-least toks left other d u = go (parted (d.front ++ d.next ∷ []) d.back u.
   where
     go : Parted (d.front ++ d.next ∷ []) d.back u.front (u.next ∷ u.back) → left ≤ other
     go (Parted.Within more first second) =
-        let shallow : depth (d.front ++ d.next ∷ []) ≤ 64 = u.shallow (d.front ++ d.next ∷ []) more first in
+        let shallow : depth (d.front ++ d.next ∷ []) ≤ NESTING_LIMIT = u.shallow (d.front ++ d.next ∷ []) more first in
         absurd (omega (arith, d.deeper, shallow))
     go (Parted.Beyond t more first second) =
         let longer : length (u.next ∷ u.back) ≡ suc (length more + length d.back) = ap length second ∙ ap suc (length-append more d.back) in

@@ -1,5 +1,6 @@
 -- What reading a whole text gives, the machine says, so it is what the grammar says: a program's tree, or where the tokens go wrong.
 use Rattle.std.proofs.Common.{◌≡◌, refl, ℕ, zero, suc, ◌≤◌, le_refl, List, [], ◌∷◌, length, ap, ◌∙◌, Result, Ok, Err, arith}
+use Rattle.tw_text.specs.declared.limits.TheConstants.{NESTING_LIMIT}
 use Rattle.tw_syntax.specs.Programs.{DeclTree, ProgramTree}
 use Rattle.tw_parse.specs.declared.error.Rejection.{Rejection}
 use Rattle.tw_parse.specs.declared.error.Rejection.TheVariants.{Syntax, Nesting}
@@ -83,11 +84,11 @@ runs_program room ts =
 
 -- the machine says of a text what reading gives
 pub verdict-whole : (toks : List Lexed) → verdict toks ≡ outcome (whole_at toks)
-verdict-whole toks = runs_program 64 toks
+verdict-whole toks = runs_program NESTING_LIMIT toks
 
--- the tree that is read is that of a program, in which at most 64 brackets are open at each place
+-- the tree that is read is that of a program, in which no more brackets are open at a place than the limit
 pub read-tree : (toks : List Lexed) (tree : ProgramTree) → whole_at toks ≡ Ok tree → HasTree toks tree × IsShallow toks
-read-tree toks tree e = ((says_program 64 toks).holds tree e, ((verdict-accept toks).0 (verdict-whole toks ∙ ap outcome e)).1)
+read-tree toks tree e = ((says_program NESTING_LIMIT toks).holds tree e, ((verdict-accept toks).0 (verdict-whole toks ∙ ap outcome e)).1)
 
 -- where reading ends early, there the tokens go wrong
 pub read-syntax : (toks : List Lexed) (left : ℕ) → whole_at toks ≡ Err (Syntax left) → IsSyntaxAt toks left
