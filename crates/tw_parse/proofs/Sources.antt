@@ -21,11 +21,11 @@ use Rattle.tw_parse.specs.Prefixes.{IsShallow, IsSyntaxAt, IsTooDeepAt}
 use Rattle.tw_parse.specs.reading.Statements.{whole_at}
 use Rattle.tw_parse.specs.Refusals.{IsNoText, refusal_of, end_of}
 use Rattle.tw_parse.specs.reading.Steps.{Fails}
-use Rattle.tw_parse.specs.reading.Outcomes.{IsParsed, IsStopped, NoText, NoToken, Halted, IsFault, fault_of}
+use Rattle.tw_parse.specs.reading.Outcomes.{IsParsed, IsNotParsed, NoText, NoToken, Rejected, IsFault, fault_of}
 use Rattle.tw_parse.specs.Sources.{IsNoProgram, IsTooDeep, IsSource, IsRefused, Utf8, Token, Program, Depth}
 use Rattle.tw_parse.proofs.forms.OneProgram.{tree-same}
 use Rattle.tw_parse.proofs.reading.Readings.{read-tree, read-syntax, read-nesting}
-use Rattle.tw_parse.proofs.machine.Verdicts.{program-not_syntax, shallow-not_deep, syntax-same, deep-same, syntax-not_deep}
+use Rattle.tw_parse.proofs.automaton.Verdicts.{program-not_syntax, shallow-not_deep, syntax-same, deep-same, syntax-not_deep}
 
 one_toks : (cs : List ℕ) (ts us : List Lexed) → HasTokens cs first_place ts → HasTokens cs first_place us → ts ≡ us
 one_toks cs ts us a b = one_reading cs first_place us ts b a
@@ -38,22 +38,22 @@ pub one_source : (bytes : List ℕ) (tree other : ProgramTree) → IsSource byte
 one_source bytes tree other s o =
     tree-same s.toks other tree (subst (λ (ts : List Lexed). HasTree ts other) (one_toks (chars bytes) o.toks s.toks o.has s.has) o.has_tree) s.has_tree
 
-halted_at : (bytes : List ℕ) (refusal : Refusal) (toks : List Lexed) (halt : Rejection) → IsUtf8 bytes → HasTokens (chars bytes) first_place toks → whole_at toks ≡ Err halt
-    → refusal ≡ refusal_of halt toks (end_of bytes) → IsRefused bytes refusal
-halted_at bytes refusal toks (Syntax left) text has reads is =
+rejected_at : (bytes : List ℕ) (refusal : Refusal) (toks : List Lexed) (rejection : Rejection) → IsUtf8 bytes → HasTokens (chars bytes) first_place toks → whole_at toks ≡ Err rejection
+    → refusal ≡ refusal_of rejection toks (end_of bytes) → IsRefused bytes refusal
+rejected_at bytes refusal toks (Syntax left) text has reads is =
     Program (record { text = text; toks = toks; left = left; has = has; syntax = read-syntax toks left reads; is = is })
-halted_at bytes refusal toks (Nesting left) text has reads is =
+rejected_at bytes refusal toks (Nesting left) text has reads is =
     Depth (record { text = text; toks = toks; left = left; has = has; nesting = read-nesting toks left reads; is = is })
 
 -- a source whose tokens are wrong has no tree
 pub fault_in : (bytes : List ℕ) (stop : ParseError) (toks : List Lexed) → IsUtf8 bytes → HasTokens (chars bytes) first_place toks → Fails stop (whole_at toks) → IsFault bytes (fault_of stop toks (end_of bytes))
 fault_in bytes error.Memory toks text has reads = tt
-fault_in bytes (error.Rejection halt) toks text has reads = Halted (record { text = text; toks = toks; halt = halt; has = has; reads = reads; is = refl })
+fault_in bytes (error.Rejection rejection) toks text has reads = Rejected (record { text = text; toks = toks; rejection = rejection; has = has; reads = reads; is = refl })
 
-pub refused_of : (bytes : List ℕ) (refusal : Refusal) → IsStopped bytes refusal → IsRefused bytes refusal
+pub refused_of : (bytes : List ℕ) (refusal : Refusal) → IsNotParsed bytes refusal → IsRefused bytes refusal
 refused_of bytes refusal (NoText n) = Utf8 n
 refused_of bytes refusal (NoToken text n) = Token text n
-refused_of bytes refusal (Halted h) = halted_at bytes refusal h.toks h.halt h.text h.has h.reads h.is
+refused_of bytes refusal (Rejected h) = rejected_at bytes refusal h.toks h.rejection h.text h.has h.reads h.is
 
 two_ways : (m n : ℕ) → (m < n → ⊥) → (n < m → ⊥) → m ≡ n
 two_ways m n not_less not_more = omega (arith, not_less, not_more)
@@ -70,7 +70,7 @@ apart bytes tree refusal s (Program n) =
 apart bytes tree refusal s (Depth n) =
     shallow-not_deep n.toks n.left (subst IsShallow (one_toks (chars bytes) s.toks n.toks s.has n.has) s.shallow) n.nesting
 
--- the length of the longest front that is a text
+-- the length of the longest prefix that is a text
 one_count : (bytes : List ℕ) (m n : ℕ) → IsValidUpTo bytes m → IsValidUpTo bytes n → m ≡ n
 one_count bytes m n v w = two_ways m n (λ less. v.longest n less w.front) (λ less. w.longest m less v.front)
 

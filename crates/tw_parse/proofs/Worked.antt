@@ -15,7 +15,7 @@ use Rattle.tw_parse.specs.Statements.{Let, NoStmts, Stmts, NoMoreParams, MorePar
 use Rattle.tw_parse.specs.Trees.{named, HasTree}
 use Rattle.tw_parse.specs.Prefixes.{IsSyntaxAt}
 use Rattle.tw_parse.specs.Sources.{IsSource, IsRefused, Program}
-use Rattle.tw_parse.proofs.machine.Verdicts.{verdict-accept, verdict-fail}
+use Rattle.tw_parse.proofs.automaton.Verdicts.{verdict-accept, verdict-fail}
 
 -- `fun main(a: bool, b: bool) -> bool { let c <- a && b; return c; }`
 abbrev pub main_fun : FunTree

@@ -19,7 +19,7 @@ pub record IsSource (bytes : List ℕ) (tree : ProgramTree) : Type 0 where
   pub has_tree : HasTree toks tree
   pub shallow : IsShallow toks
 
--- the source is refused where its tokens stop being the beginning of a program
+-- the source is refused at its first syntax error
 pub record IsNoProgram (bytes : List ℕ) (refusal : Refusal) : Type 0 where
   pub text : IsUtf8 bytes
   pub toks : List Lexed
@@ -28,7 +28,7 @@ pub record IsNoProgram (bytes : List ℕ) (refusal : Refusal) : Type 0 where
   pub syntax : IsSyntaxAt toks left
   pub is : refusal ≡ refusal_of (Syntax left) toks (end_of bytes)
 
--- the source is refused where a bracket more than the limit is opened
+-- the source is refused at the first bracket above the limit
 pub record IsTooDeep (bytes : List ℕ) (refusal : Refusal) : Type 0 where
   pub text : IsUtf8 bytes
   pub toks : List Lexed
@@ -37,8 +37,8 @@ pub record IsTooDeep (bytes : List ℕ) (refusal : Refusal) : Type 0 where
   pub nesting : IsTooDeepAt toks left
   pub is : refusal ≡ refusal_of (Nesting left) toks (end_of bytes)
 
--- the source is refused so: at the first byte that begins no character, at characters that are no token, where no
--- program goes on, or at the first bracket above the limit
+-- the source is refused so: after its longest prefix in UTF-8, at its first lexical error, at its first syntax error, or at
+-- the first bracket above the limit
 pub data IsRefused (bytes : List ℕ) (refusal : Refusal) : Type 0 where
   Utf8 : IsNoText bytes refusal → IsRefused bytes refusal
   Token : IsUtf8 bytes → IsNoToken (chars bytes) refusal → IsRefused bytes refusal

@@ -150,7 +150,7 @@ op-is_op : (op : OpForm) (p : Pos) (k : List Lexed) → op_of (sign_at (op_symbo
 op-is_op OpForm.Add p k = refl
 op-is_op op p k = refl
 
--- an expression ends in front of these tokens
+-- an expression ends before these tokens
 pub record EndsExpr (k : List Lexed) : Type 0 where
   pub dot : Lacks symbols.Dot k
   pub op : op_of k ≡ None

@@ -58,13 +58,13 @@ call_bound-same (CallBoundForm.Bound b bound o) (CallBoundForm.Bound b' other o'
     (cc (first.at, h.0, close.at), paren.at, paren.rest)
 call_bound-same c d p q k l e = absurd (cc ((same e).lexeme))
 
--- a right side ends in front of these tokens
+-- a right side ends before these tokens
 pub record EndsCall (k : List Lexed) : Type 0 where
   pub expr : EndsExpr k
   pub paren : Lacks symbols.OpenParen k
   pub bracket : Lacks symbols.OpenBracket k
 
--- what begins a call behind its name
+-- what begins a call after its name
 NotCall : List Lexed → Type 0
 NotCall k = Lacks symbols.OpenParen k × Lacks symbols.OpenBracket k
 

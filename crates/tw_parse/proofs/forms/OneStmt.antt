@@ -8,7 +8,7 @@ use Rattle.tw_parse.specs.Statements.{StmtForm, stmt_text, BlockForm, block_text
 use Rattle.tw_parse.proofs.forms.OneExpr.{same, Lacks, begins, path-same}
 use Rattle.tw_parse.proofs.forms.OneRhs.{EndsCall, rhs-same}
 
--- a list of statements ends in front of these tokens
+-- a list of statements ends before these tokens
 pub record EndsStmts (k : List Lexed) : Type 0 where
   pub no_else : Lacks symbols.Else k
   pub no_stmt : (c : StmtForm) (l : List Lexed) → k ≡ stmt_text c l → ⊥

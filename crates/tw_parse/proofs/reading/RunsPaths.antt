@@ -1,4 +1,4 @@
--- The machine follows the readers of numbers, paths and atoms.
+-- The automaton follows the readers of numbers, paths and atoms.
 use Rattle.std.proofs.Common.{◌≡◌, refl, ℕ, zero, suc, List, [], ◌∷◌, length, Bool, true, false, if◌then◌else◌, Ok, Err}
 use Rattle.std.proofs.Math.Dec.{eqb-suc-zero}
 use Rattle.tw_lex.specs.declared.symbol.Symbol.TheVariants as symbols
@@ -6,7 +6,7 @@ use Rattle.tw_parse.specs.declared.error.Rejection.TheVariants.{Syntax}
 use Rattle.tw_lex.specs.Tokens.{Lexeme, Name, Number, Sign, Lexed}
 use Rattle.tw_parse.specs.reading.Steps.{is_component, is_bound_number, leads, all_at, take_bound_number, take_component}
 use Rattle.tw_parse.specs.reading.Terms.{type_at, step_at, path_at, unit_at, null_at, zero_at, plain_atom_at, atom_with, atom_at}
-use Rattle.tw_parse.proofs.machine.Automaton.{Expected, Step', Small', Steps', Path', Atom', Next, when, settled, move, went, run}
+use Rattle.tw_parse.proofs.automaton.Transitions.{Expected, Step', Small', Steps', Path', Atom', Next, when, settled, move, went, run}
 use Rattle.tw_parse.proofs.tokens.Words.{tok}
 use Rattle.tw_parse.proofs.reading.Runs.{follow, Reads, ReadsAt, bind, done}
 use Rattle.tw_parse.proofs.reading.RunsTypes.{runs_mark, runs_angle, inside_type}

@@ -28,7 +28,7 @@ ptr_with inner room ts = do
   to ← type_argument_with inner room at.1
   Ok (PtrType at.0 to.0, to.1)
 
--- type "," type ")", behind a "(" at a place
+-- type "," type ")", after a "(" at a place
 unfoldable pub pair_with : Reader WrittenTree → Pos → Reader WrittenTree
 pair_with inner at ts = do
   first ← inner ts
@@ -141,7 +141,7 @@ op_of ts =
     else if leads symbols.Or ts then Some kind.Or
     else None
 
--- [ op atom ], behind an atom whose first token has this place
+-- [ op atom ], after an atom whose first token has this place
 abbrev pub operand_at : Option OpKind → Pos → AtomTree → ℕ → Reader ExprTree
 operand_at None at left room ts = Ok (OneExpr at left, ts)
 operand_at (Some op) at left room ts = do
@@ -158,7 +158,7 @@ not_at room ts = do
   atom ← atom_at (suc room) at.1
   Ok (NotExpr at.0 atom.0, atom.1)
 
--- atom "," atom ")", behind a "(" at a place
+-- atom "," atom ")", after a "(" at a place
 unfoldable pub two_at : Pos → ℕ → Reader ExprTree
 two_at at room ts = do
   first ← atom_at room ts
