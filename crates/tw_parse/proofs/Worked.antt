@@ -85,6 +85,6 @@ refused_text-is = Program (record {
   toks = refused_tokens;
   left = 5;
   has = refused_has_tokens;
-  syntax = refused_at_semicolon;
+  at = refused_at_semicolon;
   is = refl;
 })

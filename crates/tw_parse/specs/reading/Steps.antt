@@ -126,6 +126,14 @@ take_open mark room ts = do
   at ← take_symbol mark ts
   if room == 0 then Err (Nesting (length ts)) else Ok at
 
+-- what is between two brackets, where there is room for one more
+abbrev pub bracketed_with : {X : Type 0} → Symbol → Symbol → Reader X → ℕ → Reader X
+bracketed_with first last inner room ts = do
+  begin ← take_open first room ts
+  inside ← inner begin.1
+  close ← take_symbol last inside.1
+  Ok (inside.0, close.1)
+
 -- a name, from a word at a place; the number says how many tokens are left
 abbrev pub name_from : Lexeme → Pos → ℕ → List Lexed → Result (NameTree × List Lexed) Rejection
 name_from (Name text) at left ts = Ok (named text at, ts)
