@@ -1,21 +1,22 @@
 -- Arguments and an input have at most one answer.
 use Rattle.std.proofs.Common.{◌≡◌, ◌∙◌, ap, sym, subst, ℕ, ◌<◌, ◌≤◌, Bool, List, [], ◌∷◌, ◌++◌, length, map, codes, arith}
 use Rattle.tw_text.specs.declared.refusal.Refusal.{Refusal}
+use Rattle.tw_text.specs.declared.diagnostic.Diagnostic.{Diagnostic}
 use Rattle.tw_text.specs.declared.diagnostic.Diagnostic.TheVariants as diagnostic
 use Rattle.tw_text.specs.declared.limits.TheConstants.{INPUT_LIMIT}
 use Rattle.tw_syntax.specs.Programs.{FunTree, FunDecl, ProgramTree}
 use Rattle.tw_parse.proofs.Sources as sources
 use Rattle.tw_gate.specs.Gates.{act}
-use Rattle.tw_gatetext.specs.declared.file.GateFault.TheVariants as gate_fault
 use Rattle.tw_gatetext.specs.Text.{File, file_text}
 use Rattle.tw_gatetext.specs.Files.{BeginsWith}
 use Rattle.tw_gatetext.proofs.Bounds.{file_text-tells}
 use Rattle.tw_gatetext.proofs.Refusals as gates
-use Rattle.tw_sim.specs.declared.lines.LinesFault.TheVariants as lines_fault
 use Rattle.tw_sim.specs.BitLines.{bit_lines, AreLinesOf}
 use Rattle.tw_sim.proofs.Laws.{right_not_refused, one_reason, bit_lines-tells}
 use Rattle.tw_state.specs.Programs.{Function}
 use Rattle.tw_state.specs.FromTrees.{function_meant}
+use Rattle.tower.specs.declared.ending.Unanswered.TheVariants as unanswered
+use Rattle.tower.specs.Ending.{of_gates, of_lines}
 use Rattle.tower.specs.Requests.{Request, Format, Compile, Simulate, Invert, FileRequest}
 use Rattle.tower.specs.Outcomes.{Outcome, Prints, Refuses}
 use Rattle.tower.specs.Sources.{SourceAnswer, OnTree, NoProgram}
@@ -30,6 +31,13 @@ use Rattle.tower.specs.Simulate.{HasLines, LinesAnswer, OnStates, SimulateAnswer
 use Rattle.tower.specs.Answer.{InputAnswer, Answer, OnInput, TooLong, Usage}
 use Rattle.tower.proofs.Binds.{some_is}
 use Rattle.tower.proofs.OneRequest.{one_request}
+
+same_why : (why other : Diagnostic) → unanswered.Refused why ≡ unanswered.Refused other → why ≡ other
+same_why why other e = cc
+
+-- refusals for one reason are one
+by_reason : {outcome other : Outcome} {why next : Diagnostic} → outcome ≡ Refuses why → unanswered.Refused why ≡ unanswered.Refused next → other ≡ Refuses next → outcome ≡ other
+by_reason a e b = a ∙ ap Refuses (same_why _ _ e) ∙ sym b
 
 -- programs
 
@@ -62,15 +70,6 @@ one_source bytes OnProgram outcome other one (NoProgram refusal x a) (NoProgram 
 one_file : (bytes : List ℕ) (file other : File) (rest more : List ℕ) → BeginsWith bytes file rest → BeginsWith bytes other more → (file ≡ other) × (rest ≡ more)
 one_file bytes file other rest more x y = file_text-tells file other rest more x.valid y.valid (sym x.text ∙ y.text)
 
-same_line : (m n : ℕ) → gate_fault.BadGateText m ≡ gate_fault.BadGateText n → m ≡ n
-same_line m n e = cc
-
-same_refusal : (r s : Refusal) → gate_fault.Over r ≡ gate_fault.Over s → r ≡ s
-same_refusal r s e = cc
-
-line_or_limit : (n : ℕ) (r : Refusal) → gate_fault.BadGateText n ≡ gate_fault.Over r → ⊥
-line_or_limit n r e = cc
-
 one_gates : (bytes : List ℕ) (OnFile : File → List ℕ → Outcome → Type 0) (outcome other : Outcome) → ((file : File) (rest : List ℕ) → OnFile file rest outcome → OnFile file rest other → outcome ≡ other) →
     GatesAnswer bytes OnFile outcome → GatesAnswer bytes OnFile other → outcome ≡ other
 one_gates bytes OnFile outcome other one (OnPrefix file rest x a) (OnPrefix file' rest' y b) =
@@ -80,10 +79,10 @@ one_gates bytes OnFile outcome other one (OnPrefix file rest x a) (WrongLine lin
 one_gates bytes OnFile outcome other one (OnPrefix file rest x a) (PastLimit refusal y b) = absurd (gates.no_file bytes _ file rest y x)
 one_gates bytes OnFile outcome other one (WrongLine line x a) (OnPrefix file rest y b) = absurd (gates.no_file bytes _ file rest x y)
 one_gates bytes OnFile outcome other one (PastLimit refusal x a) (OnPrefix file rest y b) = absurd (gates.no_file bytes _ file rest x y)
-one_gates bytes OnFile outcome other one (WrongLine line x a) (WrongLine line' y b) = a ∙ ap (λ (n : ℕ). Refuses (diagnostic.BadGateText n)) (same_line line line' (gates.one_refusal bytes _ _ y x)) ∙ sym b
-one_gates bytes OnFile outcome other one (PastLimit refusal x a) (PastLimit refusal' y b) = a ∙ ap (λ (r : Refusal). Refuses (diagnostic.Refused r)) (same_refusal refusal refusal' (gates.one_refusal bytes _ _ y x)) ∙ sym b
-one_gates bytes OnFile outcome other one (WrongLine line x a) (PastLimit refusal y b) = absurd (line_or_limit line refusal (gates.one_refusal bytes _ _ y x))
-one_gates bytes OnFile outcome other one (PastLimit refusal x a) (WrongLine line y b) = absurd (line_or_limit line refusal (gates.one_refusal bytes _ _ x y))
+one_gates bytes OnFile outcome other one (WrongLine line x a) (WrongLine line' y b) = by_reason a (ap of_gates (gates.one_refusal bytes _ _ y x)) b
+one_gates bytes OnFile outcome other one (PastLimit refusal x a) (PastLimit refusal' y b) = by_reason a (ap of_gates (gates.one_refusal bytes _ _ y x)) b
+one_gates bytes OnFile outcome other one (WrongLine line x a) (PastLimit refusal y b) = by_reason a (ap of_gates (gates.one_refusal bytes _ _ y x)) b
+one_gates bytes OnFile outcome other one (PastLimit refusal x a) (WrongLine line y b) = by_reason a (ap of_gates (gates.one_refusal bytes _ _ y x)) b
 
 one_invert : (file : File) (rest : List ℕ) (outcome other : Outcome) → InvertAnswer file rest outcome → InvertAnswer file rest other → outcome ≡ other
 one_invert file rest outcome other (invert.AtEnd e a) (invert.AtEnd f b) = a ∙ sym b
@@ -116,25 +115,16 @@ one_text rest lines other (simulate.AfterMark e) (simulate.AfterMark e') = after
 one_states : (wires : ℕ) (lines : List ℕ) (states other : List (List Bool)) → AreLinesOf wires lines states → AreLinesOf wires lines other → states ≡ other
 one_states wires lines states other x y = bit_lines-tells wires states other x.wide y.wide (sym x.spelled ∙ y.spelled)
 
-same_bits : (m n : ℕ) → lines_fault.BitsLength m ≡ lines_fault.BitsLength n → m ≡ n
-same_bits m n e = cc
-
-same_over : (r s : Refusal) → lines_fault.Over r ≡ lines_fault.Over s → r ≡ s
-same_over r s e = cc
-
-bits_or_over : (n : ℕ) (r : Refusal) → lines_fault.BitsLength n ≡ lines_fault.Over r → ⊥
-bits_or_over n r e = cc
-
 one_lines : (file : File) (lines : List ℕ) (outcome other : Outcome) → LinesAnswer file lines outcome → LinesAnswer file lines other → outcome ≡ other
 one_lines file lines outcome other (OnStates states x a) (OnStates states' y b) = a ∙ ap (λ (s : List (List Bool)). Prints (bit_lines (map (act file.gates) s))) (one_states file.wires lines states states' x y) ∙ sym b
 one_lines file lines outcome other (OnStates states x a) (simulate.WrongLine line y b) = absurd (right_not_refused file.wires lines states _ x y)
 one_lines file lines outcome other (OnStates states x a) (simulate.PastLimit refusal y b) = absurd (right_not_refused file.wires lines states _ x y)
 one_lines file lines outcome other (simulate.WrongLine line x a) (OnStates states y b) = absurd (right_not_refused file.wires lines states _ y x)
 one_lines file lines outcome other (simulate.PastLimit refusal x a) (OnStates states y b) = absurd (right_not_refused file.wires lines states _ y x)
-one_lines file lines outcome other (simulate.WrongLine line x a) (simulate.WrongLine line' y b) = a ∙ ap (λ (n : ℕ). Refuses (diagnostic.BitsLength n)) (same_bits line line' (one_reason file.wires lines _ _ y x)) ∙ sym b
-one_lines file lines outcome other (simulate.PastLimit refusal x a) (simulate.PastLimit refusal' y b) = a ∙ ap (λ (r : Refusal). Refuses (diagnostic.Refused r)) (same_over refusal refusal' (one_reason file.wires lines _ _ y x)) ∙ sym b
-one_lines file lines outcome other (simulate.WrongLine line x a) (simulate.PastLimit refusal y b) = absurd (bits_or_over line refusal (one_reason file.wires lines _ _ y x))
-one_lines file lines outcome other (simulate.PastLimit refusal x a) (simulate.WrongLine line y b) = absurd (bits_or_over line refusal (one_reason file.wires lines _ _ x y))
+one_lines file lines outcome other (simulate.WrongLine line x a) (simulate.WrongLine line' y b) = by_reason a (ap of_lines (one_reason file.wires lines _ _ y x)) b
+one_lines file lines outcome other (simulate.PastLimit refusal x a) (simulate.PastLimit refusal' y b) = by_reason a (ap of_lines (one_reason file.wires lines _ _ y x)) b
+one_lines file lines outcome other (simulate.WrongLine line x a) (simulate.PastLimit refusal y b) = by_reason a (ap of_lines (one_reason file.wires lines _ _ y x)) b
+one_lines file lines outcome other (simulate.PastLimit refusal x a) (simulate.WrongLine line y b) = by_reason a (ap of_lines (one_reason file.wires lines _ _ y x)) b
 
 one_simulate : (file : File) (rest : List ℕ) (outcome other : Outcome) → SimulateAnswer file rest outcome → SimulateAnswer file rest other → outcome ≡ other
 one_simulate file rest outcome other (OfLevelT e a) (OfLevelT f b) = a ∙ sym b

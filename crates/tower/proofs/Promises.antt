@@ -104,32 +104,32 @@ asked_answer words bytes text request asks (OnInput other also few is) = subst (
 asked_answer words bytes text request asks (TooLong other also many e) = absurd (no_text text _ e)
 asked_answer words bytes text request asks (Usage none e) = absurd (none request asks)
 
--- a call that ended with Ok gave a text that has each property of all such texts
-pub asked_given : (request : Request) (left before now : Option (List ℕ)) (words : List (List ℕ)) (ended : Status) (Promise : List ℕ → Type 0) → ((bytes text : List ℕ) → Appends before now text → InputAnswer request bytes (Prints text) → Promise bytes) →
-    Answered left before now words ended → Asks words request → ended ≡ status.Ok → IfSome left Promise
-asked_given request left before now words ended Promise keeps answered asks ok = if_told left by_gave (told_answer left before now words ended answered)
+-- what is promised of the input and the sink of each request
+abbrev pub Promise : Request → Option (List ℕ) → Option (List ℕ) → List ℕ → Type 0
+Promise Format before now bytes = Formatted bytes before now
+Promise (Compile request) before now bytes = Compiled request bytes before now
+Promise Simulate before now bytes = Simulated bytes before now
+Promise Invert before now bytes = Inverted bytes before now
+
+kept : (request : Request) (words : List (List ℕ)) (bytes text : List ℕ) (before now : Option (List ℕ)) → Asks words request → Appends before now text → InputAnswer request bytes (Prints text) → Promise request before now bytes
+kept Format words bytes text before now asks took is = formats bytes text before now took is
+kept (Compile request) words bytes text before now asks took is = compiles bytes text before now took request asks.in_range.addr_to is
+kept Simulate words bytes text before now asks took is = simulates bytes text before now took is
+kept Invert words bytes text before now asks took is = inverts bytes text before now took is
+
+-- a call that ended with Ok keeps the promise of its request
+pub promised : (request : Request) (left before now : Option (List ℕ)) (words : List (List ℕ)) (ended : Status) → Answered left before now words ended → Asks words request → ended ≡ status.Ok → IfSome left (Promise request before now)
+promised request left before now words ended answered asks ok = if_told left by_gave (told_answer left before now words ended answered)
   where
-    by_outcome : (bytes : List ℕ) (outcome : Outcome) → Answer words bytes outcome → outcome_status outcome ≡ status.Ok → Appends before now (outcome_text outcome) → Promise bytes
-    by_outcome bytes (Prints text) answer same took = keeps bytes text took (asked_answer words bytes text request asks answer)
+    by_outcome : (bytes : List ℕ) (outcome : Outcome) → Answer words bytes outcome → outcome_status outcome ≡ status.Ok → Appends before now (outcome_text outcome) → Promise request before now bytes
+    by_outcome bytes (Prints text) answer same took = kept request words bytes text before now asks took (asked_answer words bytes text request asks answer)
     by_outcome bytes (Refuses why) answer same took = absurd (refusal_not_ok why same)
 
-    by_cut : (bytes : List ℕ) → IsCutShort ended → Promise bytes
+    by_cut : (bytes : List ℕ) → IsCutShort ended → Promise request before now bytes
     by_cut bytes (inl memory) = let e = sym ok ∙ memory in cc
     by_cut bytes (inr (inl read)) = let e = sym ok ∙ read in cc
     by_cut bytes (inr (inr write)) = let e = sym ok ∙ write in cc
 
-    by_gave : (bytes : List ℕ) → IsCutShort ended ⊎ GaveWhole words bytes before now ended → Promise bytes
+    by_gave : (bytes : List ℕ) → IsCutShort ended ⊎ GaveWhole words bytes before now ended → Promise request before now bytes
     by_gave bytes (inl cut) = by_cut bytes cut
     by_gave bytes (inr gave) = by_outcome bytes gave.outcome gave.answer (gave.status ∙ ok) gave.took
-
-pub formatted : (left before now : Option (List ℕ)) (words : List (List ℕ)) (ended : Status) → Answered left before now words ended → Asks words Format → ended ≡ status.Ok → IfSome left (λ bytes. Formatted bytes before now)
-formatted left before now words ended answered asks ok = asked_given Format left before now words ended (λ bytes. Formatted bytes before now) (λ bytes text took. formats bytes text before now took) answered asks ok
-
-pub headline : (left before now : Option (List ℕ)) (words : List (List ℕ)) (ended : Status) → Answered left before now words ended → (request : FileRequest) → Asks words (Compile request) → ended ≡ status.Ok → IfSome left (λ bytes. Compiled request bytes before now)
-headline left before now words ended answered request asks ok = asked_given (Compile request) left before now words ended (λ bytes. Compiled request bytes before now) (λ bytes text took. compiles bytes text before now took request asks.in_range.addr_to) answered asks ok
-
-pub inverted : (left before now : Option (List ℕ)) (words : List (List ℕ)) (ended : Status) → Answered left before now words ended → Asks words Invert → ended ≡ status.Ok → IfSome left (λ bytes. Inverted bytes before now)
-inverted left before now words ended answered asks ok = asked_given Invert left before now words ended (λ bytes. Inverted bytes before now) (λ bytes text took. inverts bytes text before now took) answered asks ok
-
-pub simulated : (left before now : Option (List ℕ)) (words : List (List ℕ)) (ended : Status) → Answered left before now words ended → Asks words Simulate → ended ≡ status.Ok → IfSome left (λ bytes. Simulated bytes before now)
-simulated left before now words ended answered asks ok = asked_given Simulate left before now words ended (λ bytes. Simulated bytes before now) (λ bytes text took. simulates bytes text before now took) answered asks ok

@@ -8,3 +8,5 @@ pub mod Pieces
 pub mod Runs
 pub mod Splits
 pub mod SymbolTexts
+pub mod Tokenizing
+pub mod Worked

@@ -1,14 +1,15 @@
 -- Tokens with the same words are a program of the same tree, places aside.
 use Rattle.std.proofs.Common.{◌≡◌, refl, ap, sym, ◌∙◌, suc, List, [], ◌∷◌, map, length}
+use Rattle.tw_text.specs.declared.limits.TheConstants.{NESTING_LIMIT}
 use Rattle.tw_syntax.specs.Unplaced.{no_place, unplaced_decl, unplaced_program}
 use Rattle.tw_syntax.specs.Programs.{ProgramTree}
 use Rattle.tw_lex.specs.Tokens.{Lexeme, Lexed}
 use Rattle.tw_parse.specs.Statements.{ProgramForm, program_text}
 use Rattle.tw_parse.specs.Trees.{decls_tree, HasTree}
 use Rattle.tw_parse.specs.Prefixes.{IsProgram, IsShallow}
-use Rattle.tw_parse.proofs.machine.Automaton.{Expected, went, move, run, verdict}
+use Rattle.tw_parse.proofs.automaton.Transitions.{Expected, went, move, run, verdict}
 use Rattle.tw_parse.proofs.forms.OneProgram.{program-same}
-use Rattle.tw_parse.proofs.machine.Verdicts.{verdict-accept}
+use Rattle.tw_parse.proofs.automaton.Verdicts.{verdict-accept}
 use Rattle.tw_parse.proofs.forms.UnplacedTerms.{unplaced_tok}
 use Rattle.tw_parse.proofs.forms.UnplacedStatements.{unplaced_program_form, program_text-unplaced, decls_tree-unplaced}
 
@@ -20,7 +21,7 @@ lexemes_of toks = map (λ (t : Lexed). t.lexeme) toks
 first_word : {x y : Lexeme} {xs ys : List Lexeme} → x ∷ xs ≡ y ∷ ys → x ≡ y
 first_word e = cc
 
--- what stands behind it is the same
+-- what stands after it is the same
 rest_words : {x y : Lexeme} {xs ys : List Lexeme} → x ∷ xs ≡ y ∷ ys → xs ≡ ys
 rest_words e = cc
 
@@ -31,18 +32,18 @@ words-length [] (u ∷ us) e = absurd (cc)
 words-length (t ∷ ts) [] e = absurd (cc)
 words-length (t ∷ ts) (u ∷ us) e = ap suc (words-length ts us (rest_words e))
 
--- the machine looks at words alone
+-- the automaton looks at words alone
 pub words-run : (toks others : List Lexed) → lexemes_of toks ≡ lexemes_of others → run toks ≡ run others
 words-run [] [] e = refl
 words-run [] (u ∷ us) e = absurd (cc)
 words-run (t ∷ ts) [] e = absurd (cc)
 words-run (t ∷ ts) (u ∷ us) e =
-    let behind = words-run ts us (rest_words e) in
+    let after = words-run ts us (rest_words e) in
     let left = words-length ts us (rest_words e) in
-    λ i room st. went (move (first_word e i) st) room (behind i) (suc (left i))
+    λ i room st. went (move (first_word e i) st) room (after i) (suc (left i))
 
 pub words-verdict : (toks others : List Lexed) → lexemes_of toks ≡ lexemes_of others → verdict toks ≡ verdict others
-words-verdict toks others e = λ i. words-run toks others e i 64 (Expected.Decl' ∷ [])
+words-verdict toks others e = λ i. words-run toks others e i NESTING_LIMIT (Expected.Decl' ∷ [])
 
 -- without their places tokens are what their words are
 pub words-unplaced : (toks others : List Lexed) → lexemes_of toks ≡ lexemes_of others → map unplaced_tok toks ≡ map unplaced_tok others

@@ -2,8 +2,9 @@
 -- the contract of parse cites; Elsewhere says that places decide nothing.
 pub mod tokens
 pub mod forms
-pub mod machine
+pub mod automaton
 pub mod reading
 pub mod code
 pub mod Sources
 pub mod Elsewhere
+pub mod Worked

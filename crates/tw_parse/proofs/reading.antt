@@ -1,4 +1,4 @@
--- The readers of the grammar's rules: what they say of the tokens that they took (Says..), and that the machine follows
+-- The readers of the grammar's rules: what they say of the tokens that they took (Says..), and that the automaton follows
 -- them (Runs..); so a text is read as its tree, or up to where it goes wrong (Readings).
 pub mod Says
 pub mod SaysTypes

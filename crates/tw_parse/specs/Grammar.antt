@@ -1,4 +1,4 @@
--- The grammar: each rule as a data type of its forms, with the place of every token, and its tokens in front of what follows.
+-- The grammar: each rule as a data type of its forms, with the place of every token, and its tokens before what follows.
 use Rattle.std.specs.Prelude.{ℕ, ◌≤◌, List, ◌∷◌}
 use Rattle.tw_text.specs.declared.place.Pos.{Pos}
 use Rattle.tw_lex.specs.declared.symbol.Symbol.{Symbol}

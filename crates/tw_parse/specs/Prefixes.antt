@@ -1,4 +1,4 @@
--- Which tokens are a program, up to where tokens are the beginning of one, and how many brackets are open.
+-- Which tokens are a program, which are a viable prefix of one, and how many brackets are open.
 use Rattle.std.specs.Prelude.{◌≡◌, ℕ, ◌+◌, ◌-◌, ◌≤◌, Bool, true, false, if◌then◌else◌, List, [], ◌∷◌, ◌++◌, length, codes, refl}
 use Rattle.std.proofs.Common.{ap}
 use Rattle.tw_text.specs.declared.refusal.Counted.TheVariants as counted
@@ -13,16 +13,16 @@ use Rattle.tw_parse.specs.Statements.{Alias, Fun, Last, Decls, ProgramForm, prog
 abbrev pub IsProgram : List Lexed → Type 0
 IsProgram toks = (form : ProgramForm) × (toks ≡ program_text form [])
 
--- the tokens are open: further tokens make them a program
-abbrev pub IsOpen : List Lexed → Type 0
-IsOpen toks = (more : List Lexed) × IsProgram (toks ++ more)
+-- the tokens are a viable prefix: further tokens make them a program
+abbrev pub IsViablePrefix : List Lexed → Type 0
+IsViablePrefix toks = (more : List Lexed) × IsProgram (toks ++ more)
 
--- open tokens end here: with the next one they are no longer open, or there is none and they are no program
+-- a viable prefix ends here: the next token does not continue it, or there is no next token and it is no program
 abbrev pub IsEnd : List Lexed → List Lexed → Type 0
-IsEnd front [] = ¬ IsProgram front
-IsEnd front (t ∷ ts) = ¬ IsOpen (front ++ t ∷ [])
+IsEnd prefix [] = ¬ IsProgram prefix
+IsEnd prefix (t ∷ ts) = ¬ IsViablePrefix (prefix ++ t ∷ [])
 
--- a word behind which `<` opens a type
+-- a word after which `<` opens a type
 abbrev pub announces : Lexeme → Bool
 announces (Sign symbols.Ptr) = true
 announces (Sign symbols.Null) = true
@@ -44,7 +44,7 @@ closes (Sign symbols.CloseBrace) = true
 closes (Sign symbols.Greater) = true
 closes word = false
 
--- how many brackets are open behind these tokens, where so many are open before them
+-- how many brackets are open after these tokens, where so many are open before them
 abbrev pub open_brackets : ℕ → Bool → List Lexed → ℕ
 open_brackets n announced [] = n
 open_brackets n announced (t ∷ ts) =
@@ -55,28 +55,28 @@ depth toks = open_brackets 0 false toks
 
 -- at each place of the tokens no more brackets are open than the limit says
 abbrev pub IsShallow : List Lexed → Type 0
-IsShallow toks = (front back : List Lexed) → toks ≡ front ++ back → depth front ≤ limit_of counted.Nesting
+IsShallow toks = (prefix suffix : List Lexed) → toks ≡ prefix ++ suffix → depth prefix ≤ limit_of counted.Nesting
 
--- with so many tokens left, the first one of them included, the tokens stop being the beginning of a program
+-- the first syntax error is at the token with so many tokens left, itself included
 pub record IsSyntaxAt (toks : List Lexed) (left : ℕ) : Type 0 where
-  pub front : List Lexed
-  pub back : List Lexed
-  pub parts : toks ≡ front ++ back
-  pub count : left ≡ length back
-  pub shallow : IsShallow front
-  pub before : IsOpen front
-  pub at : IsEnd front back
+  pub prefix : List Lexed
+  pub suffix : List Lexed
+  pub parts : toks ≡ prefix ++ suffix
+  pub count : left ≡ length suffix
+  pub shallow : IsShallow prefix
+  pub viable : IsViablePrefix prefix
+  pub at : IsEnd prefix suffix
 
--- with so many tokens left, the first one of them opens one bracket more than the limit, and no earlier one did
+-- the token with so many tokens left, itself included, is the first that opens a bracket above the limit
 pub record IsTooDeepAt (toks : List Lexed) (left : ℕ) : Type 0 where
-  pub front : List Lexed
+  pub prefix : List Lexed
   pub next : Lexed
-  pub back : List Lexed
-  pub parts : toks ≡ front ++ next ∷ back
-  pub count : left ≡ length (next ∷ back)
-  pub shallow : IsShallow front
-  pub deeper : depth (front ++ next ∷ []) ≡ limit_of counted.Nesting + 1
-  pub open_with : IsOpen (front ++ next ∷ [])
+  pub suffix : List Lexed
+  pub parts : toks ≡ prefix ++ next ∷ suffix
+  pub count : left ≡ length (next ∷ suffix)
+  pub shallow : IsShallow prefix
+  pub deeper : depth (prefix ++ next ∷ []) ≡ limit_of counted.Nesting + 1
+  pub viable : IsViablePrefix (prefix ++ next ∷ [])
 
 -- `<` after `ptr` opens a bracket, and after a name it is an operator
 pub depth-pointer : (p q : Pos) → depth (sign_at symbols.Ptr p ∷ sign_at symbols.Less q ∷ []) ≡ 1
@@ -89,15 +89,15 @@ pub depth-closed : (p q r : Pos) → depth (sign_at symbols.OpenBrace p ∷ sign
 depth-closed p q r = refl
 
 -- `type` is a viable prefix
-pub type_is_open : (p : Pos) → IsOpen (sign_at symbols.Type p ∷ [])
-type_is_open p = (name_at (codes "t") p ∷ sign_at symbols.Define p ∷ sign_at symbols.Uint p ∷ sign_at symbols.Semicolon p ∷ [], (Last (Alias p p (codes "t") p (Uint p) p), refl))
+pub type_is_viable : (p : Pos) → IsViablePrefix (sign_at symbols.Type p ∷ [])
+type_is_viable p = (name_at (codes "t") p ∷ sign_at symbols.Define p ∷ sign_at symbols.Uint p ∷ sign_at symbols.Semicolon p ∷ [], (Last (Alias p p (codes "t") p (Uint p) p), refl))
 
 first_lexeme : {t u : Lexed} {ts us : List Lexed} → t ∷ ts ≡ u ∷ us → t.lexeme ≡ u.lexeme
 first_lexeme {t = t} {u = u} e = let first : t ≡ u = cc in ap (λ x. x.lexeme) first
 
 -- no program begins with a comma
-pub comma_is_not_open : (p : Pos) → ¬ (IsOpen (sign_at symbols.Comma p ∷ []))
-comma_is_not_open p (more, (Last (Alias q n name r body e), same)) = cc (first_lexeme same)
-comma_is_not_open p (more, (Last (Fun fun), same)) = cc (first_lexeme same)
-comma_is_not_open p (more, (Decls (Alias q n name r body e) rest, same)) = cc (first_lexeme same)
-comma_is_not_open p (more, (Decls (Fun fun) rest, same)) = cc (first_lexeme same)
+pub comma_is_not_viable : (p : Pos) → ¬ (IsViablePrefix (sign_at symbols.Comma p ∷ []))
+comma_is_not_viable p (more, (Last (Alias q n name r body e), same)) = cc (first_lexeme same)
+comma_is_not_viable p (more, (Last (Fun fun), same)) = cc (first_lexeme same)
+comma_is_not_viable p (more, (Decls (Alias q n name r body e) rest, same)) = cc (first_lexeme same)
+comma_is_not_viable p (more, (Decls (Fun fun) rest, same)) = cc (first_lexeme same)

@@ -13,7 +13,7 @@ use Rattle.tw_parse.specs.declared.error.Rejection.TheVariants.{Syntax, Nesting}
 use Rattle.tw_lex.specs.declared.symbol.Symbol.TheVariants as symbols
 use Rattle.tw_lex.specs.Tokens.{Lexed, sign_at}
 
--- the place of the first token, or the place behind all of them
+-- the place of the first token, or the place after all of them
 abbrev pub place_or : List Lexed → Pos → Pos
 place_or [] end = end
 place_or (t ∷ ts) end = t.at
@@ -27,11 +27,11 @@ abbrev pub refusal_of : Rejection → List Lexed → Pos → Refusal
 refusal_of (Syntax left) toks end = broken rule.Syntax (place_left toks left end)
 refusal_of (Nesting left) toks end = passed counted.Nesting (limit_of counted.Nesting + 1) (place_left toks left end)
 
--- the place behind a text
+-- the place after a text
 abbrev pub end_of : List ℕ → Pos
 end_of bytes = after_chars first_place (chars bytes)
 
--- the source is no text from a place on
+-- the source is refused after its longest prefix in UTF-8
 pub record IsNoText (bytes : List ℕ) (refusal : Refusal) : Type 0 where
   pub count : ℕ
   pub valid : IsValidUpTo bytes count

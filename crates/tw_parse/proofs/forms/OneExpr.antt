@@ -94,16 +94,12 @@ atom-same (AtomForm.Nothing p q) (AtomForm.Nothing p' q') k l hk hl e =
     (cc (first.at, last.at), last.rest)
 atom-same (AtomForm.Null p q to r) (AtomForm.Null p' q' to' r') k l hk hl e =
     let first = same e in
-    let less = same first.rest in
-    let inner = type-same to to' (sign_at symbols.Greater r ∷ k) (sign_at symbols.Greater r' ∷ l) less.rest in
-    let last = same inner.1 in
-    (cc (first.at, less.at, inner.0, last.at), last.rest)
+    let inner = type-same (TypeForm.Ptr p q to r) (TypeForm.Ptr p q' to' r') k l (ap (λ ts. sign_at symbols.Ptr p ∷ ts) first.rest) in
+    (cc (first.at, inner.0), inner.1)
 atom-same (AtomForm.Default p q of r) (AtomForm.Default p' q' of' r') k l hk hl e =
     let first = same e in
-    let less = same first.rest in
-    let inner = type-same of of' (sign_at symbols.Greater r ∷ k) (sign_at symbols.Greater r' ∷ l) less.rest in
-    let last = same inner.1 in
-    (cc (first.at, less.at, inner.0, last.at), last.rest)
+    let inner = type-same (TypeForm.Ptr p q of r) (TypeForm.Ptr p q' of' r') k l (ap (λ ts. sign_at symbols.Ptr p ∷ ts) first.rest) in
+    (cc (first.at, inner.0), inner.1)
 atom-same c d k l hk hl e = absurd (cc ((same e).lexeme))
 
 abbrev begins_atom : Symbol → Bool
@@ -154,7 +150,7 @@ op-is_op : (op : OpForm) (p : Pos) (k : List Lexed) → op_of (sign_at (op_symbo
 op-is_op OpForm.Add p k = refl
 op-is_op op p k = refl
 
--- an expression ends in front of these tokens
+-- an expression ends before these tokens
 pub record EndsExpr (k : List Lexed) : Type 0 where
   pub dot : Lacks symbols.Dot k
   pub op : op_of k ≡ None

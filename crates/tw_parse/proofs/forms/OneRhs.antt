@@ -4,7 +4,7 @@ use Rattle.std.proofs.Math.Bridge.{le_prop}
 use Rattle.tw_text.specs.declared.place.Pos.{Pos}
 use Rattle.tw_lex.specs.declared.symbol.Symbol.TheVariants as symbols
 use Rattle.tw_lex.specs.Tokens.{Number, Lexed, name_at, sign_at}
-use Rattle.tw_parse.specs.Grammar.{StepsForm, steps_text, AtomForm, atom_text, OpForm, op_symbol, ExprForm, expr_text, BoundForm, bound_text, CallBoundForm, call_bound_text, NamesForm, names_text, MoreNamesForm, more_names_text, RhsForm, rhs_text}
+use Rattle.tw_parse.specs.Grammar.{TypeForm, StepsForm, steps_text, AtomForm, atom_text, OpForm, op_symbol, ExprForm, expr_text, BoundForm, bound_text, CallBoundForm, call_bound_text, NamesForm, names_text, MoreNamesForm, more_names_text, RhsForm, rhs_text}
 use Rattle.tw_parse.proofs.forms.OneExpr.{same, name-same, Lacks, begins, type-same, atom-not, EndsExpr, expr-same}
 
 fixed-same : (p q : Pos) (x y : ℕ) (small : x ≤ 255) (other : y ≤ 255) → p ≡ q → x ≡ y → BoundForm.Fixed p x small ≡ BoundForm.Fixed q y other
@@ -58,13 +58,13 @@ call_bound-same (CallBoundForm.Bound b bound o) (CallBoundForm.Bound b' other o'
     (cc (first.at, h.0, close.at), paren.at, paren.rest)
 call_bound-same c d p q k l e = absurd (cc ((same e).lexeme))
 
--- a right side ends in front of these tokens
+-- a right side ends before these tokens
 pub record EndsCall (k : List Lexed) : Type 0 where
   pub expr : EndsExpr k
   pub paren : Lacks symbols.OpenParen k
   pub bracket : Lacks symbols.OpenBracket k
 
--- what begins a call behind its name
+-- what begins a call after its name
 NotCall : List Lexed → Type 0
 NotCall k = Lacks symbols.OpenParen k × Lacks symbols.OpenBracket k
 
@@ -103,10 +103,8 @@ call-not_expr (CallBoundForm.Bound b bound o) c p name q x k ends e = let h = ex
 pub rhs-same : (c d : RhsForm) (k l : List Lexed) → EndsCall k → EndsCall l → rhs_text c k ≡ rhs_text d l → (c ≡ d) × (k ≡ l)
 rhs-same (RhsForm.Alloc p q of r) (RhsForm.Alloc p' q' of' r') k l hk hl e =
     let first = same e in
-    let less = same first.rest in
-    let inner = type-same of of' (sign_at symbols.Greater r ∷ k) (sign_at symbols.Greater r' ∷ l) less.rest in
-    let last = same inner.1 in
-    (cc (first.at, less.at, inner.0, last.at), last.rest)
+    let inner = type-same (TypeForm.Ptr p q of r) (TypeForm.Ptr p q' of' r') k l (ap (λ ts. sign_at symbols.Ptr p ∷ ts) first.rest) in
+    (cc (first.at, inner.0), inner.1)
 rhs-same (RhsForm.Call p x bound q args r) (RhsForm.Call p' y bound' q' args' r') k l hk hl e =
     let name = same e in
     let paren = call_bound-same bound bound' q q' (names_text args (sign_at symbols.CloseParen r ∷ k)) (names_text args' (sign_at symbols.CloseParen r' ∷ l)) name.rest in

@@ -1,14 +1,15 @@
 -- Tokens begin with at most one statement, block or list of statements.
-use Rattle.std.proofs.Common.{◌≡◌, refl, List, ◌∷◌, sym}
+use Rattle.std.proofs.Common.{◌≡◌, refl, ℕ, List, ◌∷◌, sym}
 use Rattle.tw_text.specs.declared.place.Pos.{Pos}
+use Rattle.tw_lex.specs.declared.symbol.Symbol.{Symbol}
 use Rattle.tw_lex.specs.declared.symbol.Symbol.TheVariants as symbols
-use Rattle.tw_lex.specs.Tokens.{Lexed, sign_at}
-use Rattle.tw_parse.specs.Grammar.{PathForm, path_text}
+use Rattle.tw_lex.specs.Tokens.{Lexed, name_at, sign_at}
+use Rattle.tw_parse.specs.Grammar.{PathForm, path_text, RhsForm, rhs_text}
 use Rattle.tw_parse.specs.Statements.{StmtForm, stmt_text, BlockForm, block_text, StmtsForm, stmts_text}
-use Rattle.tw_parse.proofs.forms.OneExpr.{same, Lacks, begins, path-same}
+use Rattle.tw_parse.proofs.forms.OneExpr.{same, name-same, Lacks, begins, path-same}
 use Rattle.tw_parse.proofs.forms.OneRhs.{EndsCall, rhs-same}
 
--- a list of statements ends in front of these tokens
+-- a list of statements ends before these tokens
 pub record EndsStmts (k : List Lexed) : Type 0 where
   pub no_else : Lacks symbols.Else k
   pub no_stmt : (c : StmtForm) (l : List Lexed) → k ≡ stmt_text c l → ⊥
@@ -59,22 +60,22 @@ swap-same left other p p' right back q q' k l e =
     let last = same second.1 in
     record { first = first.0; sign = sign.at; second = second.0; end = last.at; rest = last.rest }
 
+-- a `let` in either direction
+let-same : (form : Pos → Pos → List ℕ → Pos → RhsForm → Pos → StmtForm) {arrow : Symbol} (p p' n n' : Pos) (x y : List ℕ) (q q' : Pos) (rhs rhs' : RhsForm) (r r' : Pos) (k l : List Lexed)
+    → sign_at symbols.Let p ∷ name_at x n ∷ sign_at arrow q ∷ rhs_text rhs (sign_at symbols.Semicolon r ∷ k) ≡ sign_at symbols.Let p' ∷ name_at y n' ∷ sign_at arrow q' ∷ rhs_text rhs' (sign_at symbols.Semicolon r' ∷ l)
+    → (form p n x q rhs r ≡ form p' n' y q' rhs' r') × (k ≡ l)
+let-same form p p' n n' x y q q' rhs rhs' r r' k l e =
+    let first = same e in
+    let name = same first.rest in
+    let arrow = same name.rest in
+    let h = rhs-same rhs rhs' (sign_at symbols.Semicolon r ∷ k) (sign_at symbols.Semicolon r' ∷ l) (semicolon-ends r k) (semicolon-ends r' l) arrow.rest in
+    let last = same h.1 in
+    (cc (first.at, name.at, name-same name.lexeme, arrow.at, h.0, last.at), last.rest)
+
 mutual
   pub stmt-same : (c d : StmtForm) (k l : List Lexed) → Lacks symbols.Else k → Lacks symbols.Else l → stmt_text c k ≡ stmt_text d l → (c ≡ d) × (k ≡ l)
-  stmt-same (StmtForm.Let p n x q rhs r) (StmtForm.Let p' n' y q' rhs' r') k l hk hl e =
-      let first = same e in
-      let name = same first.rest in
-      let arrow = same name.rest in
-      let h = rhs-same rhs rhs' (sign_at symbols.Semicolon r ∷ k) (sign_at symbols.Semicolon r' ∷ l) (semicolon-ends r k) (semicolon-ends r' l) arrow.rest in
-      let last = same h.1 in
-      (cc (first.at, name.at, name.lexeme, arrow.at, h.0, last.at), last.rest)
-  stmt-same (StmtForm.Unlet p n x q rhs r) (StmtForm.Unlet p' n' y q' rhs' r') k l hk hl e =
-      let first = same e in
-      let name = same first.rest in
-      let arrow = same name.rest in
-      let h = rhs-same rhs rhs' (sign_at symbols.Semicolon r ∷ k) (sign_at symbols.Semicolon r' ∷ l) (semicolon-ends r k) (semicolon-ends r' l) arrow.rest in
-      let last = same h.1 in
-      (cc (first.at, name.at, name.lexeme, arrow.at, h.0, last.at), last.rest)
+  stmt-same (StmtForm.Let p n x q rhs r) (StmtForm.Let p' n' y q' rhs' r') k l hk hl e = let-same StmtForm.Let p p' n n' x y q q' rhs rhs' r r' k l e
+  stmt-same (StmtForm.Unlet p n x q rhs r) (StmtForm.Unlet p' n' y q' rhs' r') k l hk hl e = let-same StmtForm.Unlet p p' n n' x y q q' rhs rhs' r r' k l e
   stmt-same (StmtForm.Let p n x q rhs r) (StmtForm.Unlet p' n' y q' rhs' r') k l hk hl e = absurd (cc ((same (same (same e).rest).rest).lexeme))
   stmt-same (StmtForm.Unlet p n x q rhs r) (StmtForm.Let p' n' y q' rhs' r') k l hk hl e = absurd (cc ((same (same (same e).rest).rest).lexeme))
   stmt-same (StmtForm.Swap left p right q) (StmtForm.Swap other p' back q') k l hk hl e =

@@ -12,7 +12,7 @@ use Rattle.tw_parse.specs.Trees.{named, op_kind, type_tree, steps_tree, path_tre
 abbrev pub unplaced_tok : Lexed → Lexed
 unplaced_tok t = record { lexeme = t.lexeme; at = no_place }
 
--- in front of tokens without places the first text is the second one without places
+-- before tokens without places the first text is the second one without places
 abbrev pub Unplaces : (List Lexed → List Lexed) → (List Lexed → List Lexed) → Type 0
 Unplaces text placed = (k l : List Lexed) → k ≡ map unplaced_tok l → text k ≡ map unplaced_tok (placed l)
 
@@ -71,7 +71,7 @@ unplaced_rhs_form (RhsForm.Alloc p q of r) = RhsForm.Alloc no_place no_place (un
 unplaced_rhs_form (RhsForm.Call p callee bound q args r) = RhsForm.Call no_place callee (unplaced_call_bound_form bound) no_place (unplaced_names_form args) no_place
 unplaced_rhs_form (RhsForm.Plain expr) = RhsForm.Plain (unplaced_expr_form expr)
 
--- the same tokens behind a token
+-- the same tokens after a token
 pub after : {t : Lexed} {k l : List Lexed} → k ≡ l → t ∷ k ≡ t ∷ l
 after {t = t} e = ap (λ k. t ∷ k) e
 

@@ -1,24 +1,24 @@
--- The machine follows a reader: it comes to what the reader leaves, or to where the reader ends early.
+-- The automaton follows a reader: it comes to what the reader leaves, or to where the reader ends early.
 use Rattle.std.proofs.Common.{◌≡◌, refl, ℕ, zero, suc, List, ◌∷◌, ◌∙◌, Bool, true, false, Result, Ok, Err}
 use Rattle.tw_parse.specs.declared.error.Rejection.{Rejection}
 use Rattle.tw_parse.specs.declared.error.Rejection.TheVariants.{Syntax, Nesting}
 use Rattle.tw_text.specs.declared.place.Pos.{Pos}
 use Rattle.tw_lex.specs.Tokens.{Lexeme, Lexed}
 use Rattle.tw_parse.specs.reading.Steps.{Reader, ◌>>=◌}
-use Rattle.tw_parse.proofs.machine.Automaton.{Expected, Outcome, Fail, Deep, run}
+use Rattle.tw_parse.proofs.automaton.Transitions.{Expected, Outcome, Fail, Deep, run}
 use Rattle.tw_parse.proofs.tokens.Words.{tok}
 
--- what the machine says where a reader ends early
-abbrev pub halted : Rejection → Outcome
-halted (Syntax n) = Fail n
-halted (Nesting n) = Deep n
+-- what the automaton says where a reader ends early
+abbrev pub rejected : Rejection → Outcome
+rejected (Syntax n) = Fail n
+rejected (Nesting n) = Deep n
 
--- what the machine says behind a reader, with so much room and what is awaited there
+-- what the automaton says after a reader, with so much room and what is awaited there
 unfoldable pub follow : {X : Type 0} → Result (X × List Lexed) Rejection → ℕ → List Expected → Outcome
 follow (Ok x) room st = run x.1 room st
-follow (Err h) room st = halted h
+follow (Err h) room st = rejected h
 
--- the machine comes to this behind a reader
+-- the automaton comes to this after a reader
 pub record Runs {X : Type 0} (o : Outcome) (r : Result (X × List Lexed) Rejection) (room : ℕ) (st : List Expected) : Type 0 where
   pub same : o ≡ follow r room st
 
@@ -33,7 +33,7 @@ pub done : {X : Type 0} {x : X × List Lexed} {room : ℕ} {st : List Expected} 
 unfolding follow
 done = record { same = refl }
 
--- the room behind a mark
+-- the room after a mark
 abbrev pub shut : Bool → ℕ → ℕ
 shut true room = suc room
 shut false room = room

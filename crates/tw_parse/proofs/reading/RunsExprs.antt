@@ -1,4 +1,4 @@
--- The machine follows the readers of expressions.
+-- The automaton follows the readers of expressions.
 use Rattle.std.proofs.Common.{refl, ℕ, zero, suc, List, [], ◌∷◌, if◌then◌else◌}
 use Rattle.std.proofs.Math.Dec.{eqb-suc-zero}
 use Rattle.tw_text.specs.declared.place.Pos.{Pos}
@@ -7,7 +7,7 @@ use Rattle.tw_lex.specs.declared.symbol.Symbol.TheVariants as symbols
 use Rattle.tw_lex.specs.Tokens.{Lexeme, Sign, Lexed}
 use Rattle.tw_parse.specs.reading.Steps.{Reader, ◌>>=◌, leads, take_symbol}
 use Rattle.tw_parse.specs.reading.Terms.{op_at, not_at, two_at, paren_expr_at, op_expr_at, expr_at}
-use Rattle.tw_parse.proofs.machine.Automaton.{Expected, TheMark, Atom', Expr', ExprParen', OpTail', run}
+use Rattle.tw_parse.proofs.automaton.Transitions.{Expected, TheMark, Atom', Expr', ExprParen', OpTail', run}
 use Rattle.tw_parse.proofs.tokens.Words.{tok}
 use Rattle.tw_parse.proofs.reading.Runs.{follow, Runs, Reads, ReadsAt, bind, done}
 use Rattle.tw_parse.proofs.reading.RunsTypes.{runs_mark}
@@ -37,7 +37,7 @@ runs_two room at ts st =
     bind (runs_atom room ts _) (λ first. bind (runs_mark symbols.Comma refl room first.1 _) (λ comma.
     bind (runs_atom room comma.1 _) (λ second. bind (runs_mark symbols.CloseParen refl room second.1 _) (λ close. done))))
 
--- what stands behind the "(" of an expression
+-- what stands after the "(" of an expression
 abbrev paren_expr : Pos → ℕ → Reader ExprTree
 paren_expr at room ts = if leads symbols.CloseParen ts then (take_symbol symbols.CloseParen ts >>= λ close. op_at at (UnitAtom at) (suc room) close.1) else two_at at (suc room) ts
 

@@ -1,9 +1,9 @@
--- The machine follows a reader of lists.
+-- The automaton follows a reader of lists.
 use Rattle.std.proofs.Common.{◌≡◌, refl, ℕ, zero, suc, ◌<◌, ◌≤◌, le_refl, List, [], ◌∷◌, length, ◌∙◌, Bool, true, false, if◌then◌else◌, Result, Ok, Err, arith}
 use Rattle.tw_parse.specs.declared.error.Rejection.{Rejection}
 use Rattle.tw_lex.specs.Tokens.{Lexed}
 use Rattle.tw_parse.specs.reading.Steps.{Reader, ◌>>=◌, many_at, all_at}
-use Rattle.tw_parse.proofs.machine.Automaton.{Expected, Outcome, run}
+use Rattle.tw_parse.proofs.automaton.Transitions.{Expected, Outcome, run}
 use Rattle.tw_parse.proofs.reading.Runs.{follow, Runs, bind, done}
 use Rattle.tw_parse.proofs.reading.Says.{Says, Shorter}
 

@@ -1,4 +1,4 @@
--- The machine follows the readers of numbers, paths and atoms.
+-- The automaton follows the readers of numbers, paths and atoms.
 use Rattle.std.proofs.Common.{◌≡◌, refl, ℕ, zero, suc, List, [], ◌∷◌, length, Bool, true, false, if◌then◌else◌, Ok, Err}
 use Rattle.std.proofs.Math.Dec.{eqb-suc-zero}
 use Rattle.tw_lex.specs.declared.symbol.Symbol.TheVariants as symbols
@@ -6,21 +6,22 @@ use Rattle.tw_parse.specs.declared.error.Rejection.TheVariants.{Syntax}
 use Rattle.tw_lex.specs.Tokens.{Lexeme, Name, Number, Sign, Lexed}
 use Rattle.tw_parse.specs.reading.Steps.{is_component, is_bound_number, leads, all_at, take_bound_number, take_component}
 use Rattle.tw_parse.specs.reading.Terms.{type_at, step_at, path_at, unit_at, null_at, zero_at, plain_atom_at, atom_with, atom_at}
-use Rattle.tw_parse.proofs.machine.Automaton.{Expected, Step', Small', Steps', Path', Atom', Next, when, settled, move, went, run}
+use Rattle.tw_parse.proofs.automaton.Transitions.{Expected, Step', Small', Steps', Path', Atom', Next, when, settled, move, went, run}
 use Rattle.tw_parse.proofs.tokens.Words.{tok}
 use Rattle.tw_parse.proofs.reading.Runs.{follow, Reads, ReadsAt, bind, done}
 use Rattle.tw_parse.proofs.reading.RunsTypes.{runs_mark, runs_angle, inside_type}
 use Rattle.tw_parse.proofs.reading.RunsLists.{Turn, runs_all}
 use Rattle.tw_parse.proofs.reading.SaysPaths.{step_shorter}
 
+number_taken : (is : Bool) (room value : ℕ) (ts : List Lexed) (st : List Expected)
+    → went (settled (when is (Next.Take st)) (move (Number value) st)) room (run ts) (suc (length ts)) ≡ follow (if is then Ok (value, ts) else Err (Syntax (suc (length ts)))) room st
+unfolding follow
+number_taken true room value ts st = refl
+number_taken false room value ts st = refl
+
 runs_small_at : (room : ℕ) (w : Lexeme) → ReadsAt Small' take_bound_number room w
 unfolding take_bound_number follow
-runs_small_at room (Number value) p ts st = record { same = go (is_bound_number value) }
-  where
-    go : (is : Bool) → went (settled (when is (Next.Take st)) (move (Number value) st)) room (run ts) (suc (length ts))
-        ≡ follow (if is then Ok (value, ts) else Err (Syntax (suc (length ts)))) room st
-    go true = refl
-    go false = refl
+runs_small_at room (Number value) p ts st = record { same = number_taken (is_bound_number value) room value ts st }
 runs_small_at room w p ts st = record { same = refl }
 
 pub runs_small : (room : ℕ) → Reads Small' take_bound_number room
@@ -30,12 +31,7 @@ runs_small room (t ∷ ts) st = runs_small_at room t.lexeme t.at ts st
 
 runs_half_at : (room : ℕ) (w : Lexeme) → ReadsAt Step' take_component room w
 unfolding take_component follow
-runs_half_at room (Number value) p ts st = record { same = go (is_component value) }
-  where
-    go : (is : Bool) → went (settled (when is (Next.Take st)) (move (Number value) st)) room (run ts) (suc (length ts))
-        ≡ follow (if is then Ok (value, ts) else Err (Syntax (suc (length ts)))) room st
-    go true = refl
-    go false = refl
+runs_half_at room (Number value) p ts st = record { same = number_taken (is_component value) room value ts st }
 runs_half_at room w p ts st = record { same = refl }
 
 runs_half : (room : ℕ) → Reads Step' take_component room

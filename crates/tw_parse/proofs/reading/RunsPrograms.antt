@@ -1,4 +1,4 @@
--- The machine follows the readers of functions, declarations and programs.
+-- The automaton follows the readers of functions, declarations and programs.
 use Rattle.std.proofs.Common.{refl, ℕ, zero, suc, List, [], ◌∷◌}
 use Rattle.std.proofs.Math.Dec.{eqb-suc-zero}
 use Rattle.tw_text.specs.declared.place.Pos.{Pos}
@@ -7,7 +7,7 @@ use Rattle.tw_lex.specs.Tokens.{Lexeme, Name, Sign, Lexed}
 use Rattle.tw_parse.specs.reading.Steps.{leads, all_at}
 use Rattle.tw_parse.specs.reading.Terms.{type_at}
 use Rattle.tw_parse.specs.reading.Statements.{param_with, comma_param_with, param_list_with, params_at, fun_bound_at, title_at, interface_at, return_at, body_at, fun_at, type_end_at, alias_at, decl_at, is_more}
-use Rattle.tw_parse.proofs.machine.Automaton.{Expected, TheMark, Name', Type', Decl', FunBody', AfterFunName', FunParams', Params', MoreParams', run}
+use Rattle.tw_parse.proofs.automaton.Transitions.{Expected, TheMark, Name', Type', Decl', FunBody', AfterFunName', FunParams', Params', MoreParams', run}
 use Rattle.tw_parse.proofs.tokens.Words.{tok}
 use Rattle.tw_parse.proofs.reading.Runs.{follow, Runs, Reads, ReadsAt, bind, done}
 use Rattle.tw_parse.proofs.reading.RunsTypes.{runs_mark, runs_name, runs_type}
@@ -118,7 +118,7 @@ unfolding decl_at fun_at title_at follow
 runs_decl room [] st = record { same = refl }
 runs_decl room (t ∷ ts) st = runs_decl_at room t.lexeme t.at ts st
 
--- behind a program a further declaration may stand
+-- after a program a further declaration may stand
 decls_turn_at : (room : ℕ) (w : Lexeme) (p : Pos) (ts : List Lexed) → Runs (run (tok w p ∷ ts) room []) (decl_at room (tok w p ∷ ts)) room []
 decls_turn_at room (Sign symbols.Type) p ts = runs_decl room (tok (Sign symbols.Type) p ∷ ts) []
 decls_turn_at room w p ts = runs_decl room (tok w p ∷ ts) []

@@ -1,4 +1,4 @@
--- The machine follows the readers of bounds, calls and right sides.
+-- The automaton follows the readers of bounds, calls and right sides.
 use Rattle.std.proofs.Common.{refl, ℕ, zero, suc, List, [], ◌∷◌, if◌then◌else◌, Ok}
 use Rattle.std.proofs.Math.Dec.{eqb-suc-zero}
 use Rattle.tw_text.specs.declared.place.Pos.{Pos}
@@ -8,7 +8,7 @@ use Rattle.tw_lex.specs.declared.symbol.Symbol.TheVariants as symbols
 use Rattle.tw_lex.specs.Tokens.{Lexeme, Name, Number, Sign, Lexed}
 use Rattle.tw_parse.specs.reading.Steps.{Reader, ◌>>=◌, leads, all_at, take_symbol, take_bound_number}
 use Rattle.tw_parse.specs.reading.Terms.{type_at, named_bound_at, bound_at, call_bound_at, comma_name_at, names_at, args_at, call_at, alloc_at, rhs_at, expr_at, op_expr_at}
-use Rattle.tw_parse.proofs.machine.Automaton.{Expected, TheMark, Rhs', AfterName', Bound', BoundTail', CallArgs', Args', MoreArgs', run}
+use Rattle.tw_parse.proofs.automaton.Transitions.{Expected, TheMark, Rhs', AfterName', Bound', BoundTail', CallArgs', Args', MoreArgs', run}
 use Rattle.tw_parse.proofs.tokens.Words.{tok}
 use Rattle.tw_parse.proofs.reading.Runs.{follow, Runs, Reads, ReadsAt, bind, done}
 use Rattle.tw_parse.proofs.reading.RunsTypes.{runs_mark, runs_name, runs_angle, inside_type}
@@ -17,7 +17,7 @@ use Rattle.tw_parse.proofs.reading.RunsPaths.{runs_small}
 use Rattle.tw_parse.proofs.reading.RunsExprs.{runs_expr}
 use Rattle.tw_parse.proofs.reading.SaysRhs.{comma_name_shorter}
 
--- what stands behind the name of a bound
+-- what stands after the name of a bound
 abbrev bound_tail : NameTree → Reader BoundTree
 bound_tail name ts =
     if leads symbols.Minus ts then (take_symbol symbols.Minus ts >>= λ minus. take_bound_number minus.1 >>= λ number. Ok (LessBound name number.0, number.1)) else Ok (SameBound name, ts)
@@ -81,7 +81,7 @@ unfolding args_at follow
 runs_args room [] st = record { same = refl }
 runs_args room (t ∷ ts) st = runs_args_at room t.lexeme t.at ts st
 
--- what stands behind the name that a right side begins with
+-- what stands after the name that a right side begins with
 runs_after_name : (room : ℕ) (text : List ℕ) (p : Pos) (w : Lexeme) (q : Pos) (ts : List Lexed) (st : List Expected)
     → Runs (run (tok w q ∷ ts) room (AfterName' ∷ st)) (rhs_at room (tok (Name text) p ∷ tok w q ∷ ts)) room st
 unfolding rhs_at call_at call_bound_at

@@ -1,4 +1,4 @@
--- The machine follows the readers of statements.
+-- The automaton follows the readers of statements.
 use Rattle.std.proofs.Common.{refl, ℕ, zero, suc, List, [], ◌∷◌}
 use Rattle.std.proofs.Math.Dec.{eqb-suc-zero}
 use Rattle.tw_text.specs.declared.place.Pos.{Pos}
@@ -8,7 +8,7 @@ use Rattle.tw_lex.specs.Tokens.{Lexeme, Name, Sign, Lexed}
 use Rattle.tw_parse.specs.reading.Steps.{Reader, all_at}
 use Rattle.tw_parse.specs.reading.Terms.{path_at}
 use Rattle.tw_parse.specs.reading.Statements.{direction_at, rhs_end_at, let_at, exchange_at, swap_at, mem_swap_at, skip_at, goes_before, block_with, block_stmt_with, else_with, if_with, with_with, plain_stmt_at, stmt_with, stmt_at}
-use Rattle.tw_parse.proofs.machine.Automaton.{Expected, TheMark, Name', Path', Rhs', Stmt', LetArrow', Stmts', ElseTail', Block', Body', run}
+use Rattle.tw_parse.proofs.automaton.Transitions.{Expected, TheMark, Name', Path', Rhs', Stmt', LetArrow', Stmts', ElseTail', Block', Body', run}
 use Rattle.tw_parse.proofs.tokens.Words.{tok}
 use Rattle.tw_parse.proofs.reading.Runs.{follow, Runs, Reads, ReadsAt, Inside, bind, done}
 use Rattle.tw_parse.proofs.reading.RunsTypes.{runs_mark, runs_name}

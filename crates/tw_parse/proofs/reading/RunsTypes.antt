@@ -1,4 +1,4 @@
--- The machine follows the readers of single tokens and of types.
+-- The automaton follows the readers of single tokens and of types.
 use Rattle.std.proofs.Common.{◌≡◌, refl, ℕ, zero, suc, List, [], ◌∷◌, length, Bool, true, false, if◌then◌else◌, Ok, Err}
 use Rattle.std.proofs.Math.Dec.{eqb-suc-zero}
 use Rattle.tw_text.specs.declared.place.Pos.{Pos}
@@ -10,7 +10,7 @@ use Rattle.tw_parse.specs.Prefixes.{closes}
 use Rattle.tw_parse.specs.declared.error.Rejection.TheVariants.{Syntax}
 use Rattle.tw_syntax.specs.Types.{WrittenTree, UnitType}
 use Rattle.tw_parse.specs.reading.Terms.{type_argument_with, ptr_with, pair_with, paren_with, plain_type_at, type_with, type_at}
-use Rattle.tw_parse.proofs.machine.Automaton.{Expected, TheMark, Name', Type', Angled', Paren', when, taken_mark, settled, move, stands_alone, went, run}
+use Rattle.tw_parse.proofs.automaton.Transitions.{Expected, TheMark, Name', Type', Angled', Paren', when, taken_mark, settled, move, stands_alone, went, run}
 use Rattle.tw_parse.proofs.tokens.Words.{tok}
 use Rattle.tw_parse.proofs.reading.Runs.{follow, Runs, Reads, ReadsAt, bind, done, shut, Inside}
 
@@ -48,7 +48,7 @@ unfolding type_argument_with follow
 runs_angle inner room inside [] st = record { same = refl }
 runs_angle inner room inside (t ∷ ts) st = runs_angle_at inner room inside t.lexeme t.at ts st
 
--- what stands behind the "(" of a type
+-- what stands after the "(" of a type
 abbrev paren_type : Reader WrittenTree → Pos → Reader WrittenTree
 paren_type inner at ts = if leads symbols.CloseParen ts then (take_symbol symbols.CloseParen ts >>= λ close. Ok (UnitType at, close.1)) else pair_with inner at ts
 

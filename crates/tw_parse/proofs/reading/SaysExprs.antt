@@ -19,7 +19,7 @@ operand_got : (left : AtomForm) (op : OpForm) (p : Pos) (ts : List Lexed) {r : R
     → Says (Got expr_text expr_tree (atom_text left (sign_at (form.op_symbol op) p ∷ ts))) (r >>= λ right. Ok (OpExpr (atom_place left) (op_kind op) (atom_tree left) right.0, right.1))
 operand_got left op p ts h = says h (λ right c. says_ok (record { form = form.Op left op p c.form; spelled = cc; value = cc }))
 
--- an operator and the atom behind it
+-- an operator and the atom after it
 says_operand : (room : ℕ) (left : AtomForm) (op : OpForm) (p : Pos) (ts : List Lexed)
     → Says (Got expr_text expr_tree (atom_text left (sign_at (form.op_symbol op) p ∷ ts))) (op_at (atom_place left) (atom_tree left) room (sign_at (form.op_symbol op) p ∷ ts))
 unfolding op_at
@@ -44,7 +44,7 @@ unfolding op_at
 says_op room left [] = says_ok (record { form = form.One left; spelled = refl; value = refl })
 says_op room left (t ∷ ts) = says_op_at room left t.lexeme t.at ts
 
--- the same behind an atom that was read
+-- the same after an atom that was read
 says_op_behind : (room : ℕ) (at : Pos) (left : AtomTree) (ts us : List Lexed) (c : AtomForm) → at ≡ atom_place c → left ≡ atom_tree c → ts ≡ atom_text c us
     → Says (Got expr_text expr_tree ts) (op_at at left room us)
 says_op_behind room at left ts us c place tree spelled = rw (place, tree, spelled) (says_op room c us)

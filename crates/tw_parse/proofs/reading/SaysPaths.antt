@@ -89,9 +89,9 @@ says_atom_with room ts =
     says_either (leads symbols.OpenParen ts) (says (says_open symbols.OpenParen room ts) (λ begin p. says (says_mark symbols.CloseParen begin.1) (λ close q.
     says_ok (record { form = form.Nothing begin.0 close.0; spelled = cc; value = refl }))))
     (says_either (leads symbols.Null ts) (says (says_mark symbols.Null ts) (λ at p. says (says_angle (type_at room) room (says_type room) at.1) (λ to c.
-    says_ok (record { form = form.Null at.0 c.less c.ty c.more; spelled = cc; value = cc }))))
+    says_ok (record { form = form.Null at.0 c.begin c.form c.close; spelled = cc; value = cc }))))
     (says_either (leads symbols.Default ts) (says (says_mark symbols.Default ts) (λ at p. says (says_angle (type_at room) room (says_type room) at.1) (λ of c.
-    says_ok (record { form = form.Default at.0 c.less c.ty c.more; spelled = cc; value = cc }))))
+    says_ok (record { form = form.Default at.0 c.begin c.form c.close; spelled = cc; value = cc }))))
     (says_plain_atom ts)))
 
 pub says_atom : (room : ℕ) → Spells atom_text atom_tree (atom_at room)

@@ -14,7 +14,7 @@ use Rattle.tw_parse.specs.reading.Steps.{Reader, leads, leads_name, many_at}
 use Rattle.tw_parse.specs.reading.Terms.{type_at}
 use Rattle.tw_parse.specs.reading.Statements.{stmt_at, chain, goes_before, param_with, comma_param_with, param_list_with, params_at, fun_bound_at, Title, Interface, Return, Body, title_at, interface_at, return_at, body_at, fun_from, fun_at, type_end_at, alias_at, decl_at}
 use Rattle.tw_parse.proofs.reading.Says.{Says, says, says_ok, says_as, says_either, says_many, Shorter, says_shorter, Got, Spells}
-use Rattle.tw_parse.proofs.reading.SaysTypes.{says_mark, says_open, says_name, says_type}
+use Rattle.tw_parse.proofs.reading.SaysTypes.{says_mark, says_open, says_name, says_type, Bracketed, says_bracketed}
 use Rattle.tw_parse.proofs.reading.SaysStmts.{says_stmts, says_stmt}
 use Rattle.tw_parse.proofs.forms.Grows.{param_grows, decl_grows}
 
@@ -56,18 +56,9 @@ says_param_list inner spells ts =
     says_ok (record { form = form.Params c.form d.form; spelled = rw (← d.spelled) c.spelled; value = rw (c.value, d.value) refl }))))
     (says_ok (record { form = form.NoParams; spelled = refl; value = refl }))
 
-record Parameters (ts : List Lexed) (x : List ParamTree × List Lexed) : Type 0 where
-  pub begin : Pos
-  pub params : ParamsForm
-  pub close : Pos
-  pub same : ts ≡ sign_at symbols.OpenParen begin ∷ params_text params (sign_at symbols.CloseParen close ∷ x.1)
-  pub value : x.0 ≡ params_tree params
-
-says_params : (room : ℕ) (ts : List Lexed) → Says (Parameters ts) (params_at room ts)
+says_params : (room : ℕ) (ts : List Lexed) → Says (Bracketed symbols.OpenParen symbols.CloseParen params_text params_tree ts) (params_at room ts)
 unfolding params_at
-says_params room ts =
-    says (says_open symbols.OpenParen room ts) (λ begin p. says (says_param_list (type_at room) (says_type room) begin.1) (λ params c. says (says_mark symbols.CloseParen params.1) (λ close q.
-    says_ok (record { begin = begin.0; params = c.form; close = close.0; same = cc; value = c.value }))))
+says_params room ts = says_bracketed symbols.OpenParen symbols.CloseParen (param_list_with (type_at room)) room (says_param_list (type_at room) (says_type room)) ts
 
 says_fun_bound : Spells fun_bound_text fun_bound_tree fun_bound_at
 unfolding fun_bound_at
@@ -103,7 +94,7 @@ says_interface : (room : ℕ) (ts : List Lexed) → Says (Interfacing ts) (inter
 unfolding interface_at
 says_interface room ts =
     says (says_params room ts) (λ params c. says (says_mark symbols.Arrow params.1) (λ arrow p. says (says_type (suc room) arrow.1) (λ result d.
-    says_ok (record { begin = c.begin; params = c.params; close = c.close; arrow = arrow.0; result = d.form; same = cc; params_value = c.value; result_value = d.value }))))
+    says_ok (record { begin = c.begin; params = c.form; close = c.close; arrow = arrow.0; result = d.form; same = cc; params_value = c.value; result_value = d.value }))))
 
 record Returning (ts : List Lexed) (x : Return × List Lexed) : Type 0 where
   pub semicolon : Pos

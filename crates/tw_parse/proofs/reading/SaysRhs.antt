@@ -10,7 +10,7 @@ use Rattle.tw_parse.specs.Trees.{bound_tree, call_bound_tree, more_names_tree, n
 use Rattle.tw_parse.specs.reading.Steps.{leads, leads_name, leads_number, many_at}
 use Rattle.tw_parse.specs.reading.Terms.{type_at, named_bound_at, bound_at, call_bound_at, comma_name_at, names_at, args_at, call_at, leads_call, alloc_at, rhs_at}
 use Rattle.tw_parse.proofs.reading.Says.{Says, says, says_ok, says_as, says_either, says_many, Shorter, Got, Spells}
-use Rattle.tw_parse.proofs.reading.SaysTypes.{says_mark, says_open, says_name, says_angle, says_type}
+use Rattle.tw_parse.proofs.reading.SaysTypes.{says_mark, says_name, Bracketed, says_bracketed, says_angle, says_type}
 use Rattle.tw_parse.proofs.reading.SaysPaths.{says_small}
 use Rattle.tw_parse.proofs.reading.SaysExprs.{says_expr}
 
@@ -59,29 +59,20 @@ says_names ts =
     says_ok (record { form = form.Names first.0.at first.0.text c.form; spelled = cc; value = ap (λ l. first.0 ∷ l) c.value }))))
     (says_ok (record { form = form.NoNames; spelled = refl; value = refl }))
 
-record Args (ts : List Lexed) (x : List NameTree × List Lexed) : Type 0 where
-  pub begin : Pos
-  pub names : NamesForm
-  pub close : Pos
-  pub same : ts ≡ sign_at symbols.OpenParen begin ∷ names_text names (sign_at symbols.CloseParen close ∷ x.1)
-  pub value : x.0 ≡ names_tree names
-
-says_args : (room : ℕ) (ts : List Lexed) → Says (Args ts) (args_at room ts)
+says_args : (room : ℕ) (ts : List Lexed) → Says (Bracketed symbols.OpenParen symbols.CloseParen names_text names_tree ts) (args_at room ts)
 unfolding args_at
-says_args room ts =
-    says (says_open symbols.OpenParen room ts) (λ begin p. says (says_names begin.1) (λ names c. says (says_mark symbols.CloseParen names.1) (λ close q.
-    says_ok (record { begin = begin.0; names = c.form; close = close.0; same = cc; value = c.value }))))
+says_args room ts = says_bracketed symbols.OpenParen symbols.CloseParen names_at room says_names ts
 
 says_call : (room : ℕ) → Spells rhs_text rhs_tree (call_at room)
 unfolding call_at
 says_call room ts =
     says (says_name ts) (λ callee p. says (says_call_bound callee.1) (λ bound c. says (says_args room bound.1) (λ args d.
-    says_ok (record { form = form.Call callee.0.at callee.0.text c.form d.begin d.names d.close; spelled = cc; value = cc }))))
+    says_ok (record { form = form.Call callee.0.at callee.0.text c.form d.begin d.form d.close; spelled = cc; value = cc }))))
 
 pub says_rhs : (room : ℕ) → Spells rhs_text rhs_tree (rhs_at room)
 unfolding rhs_at alloc_at
 says_rhs room ts =
     says_either (leads symbols.Alloc ts) (says (says_mark symbols.Alloc ts) (λ at p. says (says_angle (type_at room) room (says_type room) at.1) (λ of c.
-    says_ok (record { form = form.Alloc at.0 c.less c.ty c.more; spelled = cc; value = cc }))))
+    says_ok (record { form = form.Alloc at.0 c.begin c.form c.close; spelled = cc; value = cc }))))
     (says_either (leads_call ts) (says_call room ts)
     (says (says_expr room ts) (λ expr c. says_ok (record { form = form.Plain c.form; spelled = c.spelled; value = cc }))))

@@ -10,7 +10,7 @@ use Rattle.tw_lex.specs.Tokens.{Lexeme, Name, Number, Sign, Lexed, name_at, numb
 use Rattle.tw_parse.specs.Grammar as form
 use Rattle.tw_parse.specs.Grammar.{TypeForm, type_text}
 use Rattle.tw_parse.specs.Trees.{type_tree}
-use Rattle.tw_parse.specs.reading.Steps.{Reader, is_symbol, leads, take_symbol, take_open, take_name, take_number}
+use Rattle.tw_parse.specs.reading.Steps.{Reader, is_symbol, leads, take_symbol, take_open, bracketed_with, take_name, take_number}
 use Rattle.tw_parse.specs.reading.Terms.{type_argument_with, ptr_with, pair_with, paren_with, plain_type_at, type_with, type_at}
 use Rattle.tw_parse.proofs.tokens.Words.{tok, is_symbol-true}
 use Rattle.tw_parse.proofs.reading.Says.{Says, says, says_ok, says_err, says_as, says_either, Got, Spells}
@@ -25,12 +25,13 @@ pub record Counted (ts : List Lexed) (x : ℕ × List Lexed) : Type 0 where
   pub at : Pos
   pub same : ts ≡ number_at x.0 at ∷ x.1
 
-pub record Angled (ts : List Lexed) (x : WrittenTree × List Lexed) : Type 0 where
-  pub less : Pos
-  pub ty : TypeForm
-  pub more : Pos
-  pub same : ts ≡ sign_at symbols.Less less ∷ type_text ty (sign_at symbols.Greater more ∷ x.1)
-  pub value : x.0 ≡ type_tree ty
+-- a form of the grammar between two brackets, with what was read
+pub record Bracketed {C X : Type 0} (first last : Symbol) (text : C → List Lexed → List Lexed) (tree : C → X) (ts : List Lexed) (x : X × List Lexed) : Type 0 where
+  pub begin : Pos
+  pub form : C
+  pub close : Pos
+  pub same : ts ≡ sign_at first begin ∷ text form (sign_at last close ∷ x.1)
+  pub value : x.0 ≡ tree form
 
 pub says_mark : (mark : Symbol) (ts : List Lexed) → Says (Marked mark ts) (take_symbol mark ts)
 says_mark mark [] = says_err
@@ -61,11 +62,16 @@ says_number (t ∷ ts) = go t.lexeme
     go (Name text) = says_err
     go (Sign mark) = says_err
 
-pub says_angle : (inner : Reader WrittenTree) (room : ℕ) → Spells type_text type_tree inner → (ts : List Lexed) → Says (Angled ts) (type_argument_with inner room ts)
+pub says_bracketed : {C X : Type 0} {text : C → List Lexed → List Lexed} {tree : C → X} (first last : Symbol) (inner : Reader X) (room : ℕ) → Spells text tree inner → (ts : List Lexed)
+    → Says (Bracketed first last text tree ts) (bracketed_with first last inner room ts)
+says_bracketed first last inner room spells ts =
+    says (says_open first room ts) (λ begin p. says (spells begin.1) (λ inside c. says (says_mark last inside.1) (λ close q.
+    says_ok (record { begin = begin.0; form = c.form; close = close.0; same = cc; value = c.value }))))
+
+pub says_angle : (inner : Reader WrittenTree) (room : ℕ) → Spells type_text type_tree inner → (ts : List Lexed)
+    → Says (Bracketed symbols.Less symbols.Greater type_text type_tree ts) (type_argument_with inner room ts)
 unfolding type_argument_with
-says_angle inner room spells ts =
-    says (says_open symbols.Less room ts) (λ less p. says (spells less.1) (λ to c. says (says_mark symbols.Greater to.1) (λ more q.
-    says_ok (record { less = less.0; ty = c.form; more = more.0; same = cc; value = c.value }))))
+says_angle inner room spells ts = says_bracketed symbols.Less symbols.Greater inner room spells ts
 
 says_pair : (inner : Reader WrittenTree) → Spells type_text type_tree inner → (at : Pos) (ts : List Lexed)
     → Says (Got type_text type_tree (sign_at symbols.OpenParen at ∷ ts)) (pair_with inner at ts)
@@ -92,7 +98,7 @@ says_type_with : (inner : Reader WrittenTree) (room : ℕ) → Spells type_text 
 unfolding type_with ptr_with
 says_type_with inner room spells ts =
     says_either (leads symbols.Ptr ts) (says (says_mark symbols.Ptr ts) (λ at p. says (says_angle inner room spells at.1) (λ to c.
-    says_ok (record { form = form.Ptr at.0 c.less c.ty c.more; spelled = cc; value = cc }))))
+    says_ok (record { form = form.Ptr at.0 c.begin c.form c.close; spelled = cc; value = cc }))))
     (says_either (leads symbols.OpenParen ts) (says_paren inner room spells ts) (says_plain_type ts))
 
 pub says_type : (room : ℕ) → Spells type_text type_tree (type_at room)

@@ -22,30 +22,30 @@ pub record IsParsed (bytes : List ℕ) (tree : ProgramTree) : Type 0 where
   pub has : HasTokens (chars bytes) first_place toks
   pub reads : whole_at toks ≡ Ok tree
 
--- the source's tokens are wrong
-pub record IsHalted (bytes : List ℕ) (refusal : Refusal) : Type 0 where
+-- the source's tokens are rejected
+pub record IsRejected (bytes : List ℕ) (refusal : Refusal) : Type 0 where
   pub text : IsUtf8 bytes
   pub toks : List Lexed
-  pub halt : Rejection
+  pub rejection : Rejection
   pub has : HasTokens (chars bytes) first_place toks
-  pub reads : whole_at toks ≡ Err halt
-  pub is : refusal ≡ refusal_of halt toks (end_of bytes)
+  pub reads : whole_at toks ≡ Err rejection
+  pub is : refusal ≡ refusal_of rejection toks (end_of bytes)
 
 -- the source is refused so
-pub data IsStopped (bytes : List ℕ) (refusal : Refusal) : Type 0 where
-  NoText : IsNoText bytes refusal → IsStopped bytes refusal
-  NoToken : IsUtf8 bytes → IsNoToken (chars bytes) refusal → IsStopped bytes refusal
-  Halted : IsHalted bytes refusal → IsStopped bytes refusal
+pub data IsNotParsed (bytes : List ℕ) (refusal : Refusal) : Type 0 where
+  NoText : IsNoText bytes refusal → IsNotParsed bytes refusal
+  NoToken : IsUtf8 bytes → IsNoToken (chars bytes) refusal → IsNotParsed bytes refusal
+  Rejected : IsRejected bytes refusal → IsNotParsed bytes refusal
 
 -- the source has no tree for this fault
 abbrev pub IsFault : List ℕ → Fault → Type 0
 IsFault bytes fault.Memory = Unit {0}
-IsFault bytes (fault.Refused refusal) = IsStopped bytes refusal
+IsFault bytes (fault.Refused refusal) = IsNotParsed bytes refusal
 
--- the fault for a stop over these tokens
+-- the fault for an error at these tokens
 abbrev pub fault_of : ParseError → List Lexed → Pos → Fault
 fault_of error.Memory toks end = fault.Memory
-fault_of (error.Rejection halt) toks end = fault.Refused (refusal_of halt toks end)
+fault_of (error.Rejection rejection) toks end = fault.Refused (refusal_of rejection toks end)
 
 -- the fault of a source that is no text
 abbrev pub IsNoTextFault : List ℕ → Fault → Type 0

@@ -14,7 +14,7 @@ use Rattle.tw_syntax.specs.Terms.{RhsTree}
 use Rattle.tw_syntax.specs.Statements.{StmtTree, Nothing, Then, Else, LetStmt, SwapStmt, MemSwapStmt, IfStmt, WithStmt, BlockStmt, SkipStmt}
 use Rattle.tw_syntax.specs.Programs.{ParamTree, FunTree, AliasTree, DeclTree, AliasDecl, FunDecl, ProgramTree}
 use Rattle.tw_lex.specs.Tokens.{Lexed, name_at, sign_at}
-use Rattle.tw_parse.specs.reading.Steps.{Reader, ◌>>=◌, leads, leads_name, place_at, take_symbol, take_open, take_name, all_at, many_at}
+use Rattle.tw_parse.specs.reading.Steps.{Reader, ◌>>=◌, leads, leads_name, place_at, take_symbol, take_open, bracketed_with, take_name, all_at, many_at}
 use Rattle.tw_parse.specs.reading.Terms.{type_at, path_at, rhs_at, type_with, plain_type_at}
 
 -- "<-", which is true, or "->", which is false
@@ -161,11 +161,7 @@ param_list_with inner ts = if leads_name ts then (do
 
 -- "(" [ param { "," param } ] ")"
 unfoldable pub params_at : ℕ → Reader (List ParamTree)
-params_at room ts = do
-  begin ← take_open symbols.OpenParen room ts
-  params ← param_list_with (type_at room) begin.1
-  close ← take_symbol symbols.CloseParen params.1
-  Ok (params.0, close.1)
+params_at room ts = bracketed_with symbols.OpenParen symbols.CloseParen (param_list_with (type_at room)) room ts
 
 -- [ "[" name "]" ]
 unfoldable pub fun_bound_at : Reader (Option NameTree)

@@ -1,4 +1,4 @@
--- Reading from left to right: a reader takes what it reads from the front of the tokens, or says where they are wrong.
+-- Reading from left to right: a reader takes a prefix of the remaining tokens, or says where they are wrong.
 use Rattle.std.specs.Prelude.{◌≡◌, ℕ, zero, suc, ◌==◌, Bool, true, false, ◌||◌, if◌then◌else◌, nat_lt, List, [], ◌∷◌, length, Result, Ok, Err, codes, refl}
 use Rattle.tw_text.specs.declared.place.Pos.{Pos}
 use Rattle.tw_lex.specs.declared.symbol.Symbol.{Symbol}
@@ -11,7 +11,7 @@ use Rattle.tw_syntax.specs.Names.{NameTree}
 use Rattle.tw_lex.specs.Tokens.{Lexeme, Name, Number, Sign, Lexed, name_at, number_at, sign_at}
 use Rattle.tw_parse.specs.Trees.{named}
 
--- what is read, and the tokens behind it
+-- what is read, and the tokens after it
 abbrev pub Reader : Type 0 → Type 0
 Reader X = List Lexed → Result (X × List Lexed) Rejection
 
@@ -23,7 +23,7 @@ abbrev pub ◌>>=◌ : {A B : Type 0} → Result A Rejection → (A → Result B
 -- what a function returned, seen by view, is what reading gives, unless memory ran out
 abbrev pub Fails : {Y : Type 0} → ParseError → Result Y Rejection → Type 0
 Fails error.Memory read = Unit {0}
-Fails (error.Rejection halt) read = read ≡ Err halt
+Fails (error.Rejection rejection) read = read ≡ Err rejection
 
 abbrev pub Returns : {X Y : Type 0} → (X → Y) → Result X ParseError → Result Y Rejection → Type 0
 Returns view (Ok x) read = read ≡ Ok (view x)
@@ -125,6 +125,14 @@ abbrev pub take_open : Symbol → ℕ → Reader Pos
 take_open mark room ts = do
   at ← take_symbol mark ts
   if room == 0 then Err (Nesting (length ts)) else Ok at
+
+-- what is between two brackets, where there is room for one more
+abbrev pub bracketed_with : {X : Type 0} → Symbol → Symbol → Reader X → ℕ → Reader X
+bracketed_with first last inner room ts = do
+  begin ← take_open first room ts
+  inside ← inner begin.1
+  close ← take_symbol last inside.1
+  Ok (inside.0, close.1)
 
 -- a name, from a word at a place; the number says how many tokens are left
 abbrev pub name_from : Lexeme → Pos → ℕ → List Lexed → Result (NameTree × List Lexed) Rejection

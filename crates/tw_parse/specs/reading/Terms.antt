@@ -11,15 +11,11 @@ use Rattle.tw_syntax.specs.Types.{WrittenTree, UnitType, UintType, BoolType, Pai
 use Rattle.tw_syntax.specs.Terms.{AtomTree, PlaceAtom, NumberAtom, TrueAtom, FalseAtom, UnitAtom, NullAtom, ZeroAtom, ExprTree, OneExpr, TwoExpr, NotExpr, OpExpr, BoundTree, FixedBound, SameBound, LessBound, RhsTree, ExprRhs, CallRhs, AllocRhs}
 use Rattle.tw_lex.specs.Tokens.{Lexed, name_at, sign_at}
 use Rattle.tw_lex.specs.Cursors.{behind}
-use Rattle.tw_parse.specs.reading.Steps.{Reader, ◌>>=◌, leads, leads_name, leads_number, place_at, take_symbol, take_open, take_name, take_number, take_bound_number, take_component, all_at}
+use Rattle.tw_parse.specs.reading.Steps.{Reader, ◌>>=◌, leads, leads_name, leads_number, place_at, take_symbol, take_open, bracketed_with, take_name, take_number, take_bound_number, take_component, all_at}
 
 -- "<" type ">"
 unfoldable pub type_argument_with : Reader WrittenTree → ℕ → Reader WrittenTree
-type_argument_with inner room ts = do
-  less ← take_open symbols.Less room ts
-  to ← inner less.1
-  more ← take_symbol symbols.Greater to.1
-  Ok (to.0, more.1)
+type_argument_with inner room ts = bracketed_with symbols.Less symbols.Greater inner room ts
 
 -- "ptr" "<" type ">"
 unfoldable pub ptr_with : Reader WrittenTree → ℕ → Reader WrittenTree
@@ -28,7 +24,7 @@ ptr_with inner room ts = do
   to ← type_argument_with inner room at.1
   Ok (PtrType at.0 to.0, to.1)
 
--- type "," type ")", behind a "(" at a place
+-- type "," type ")", after a "(" at a place
 unfoldable pub pair_with : Reader WrittenTree → Pos → Reader WrittenTree
 pair_with inner at ts = do
   first ← inner ts
@@ -141,7 +137,7 @@ op_of ts =
     else if leads symbols.Or ts then Some kind.Or
     else None
 
--- [ op atom ], behind an atom whose first token has this place
+-- [ op atom ], after an atom whose first token has this place
 abbrev pub operand_at : Option OpKind → Pos → AtomTree → ℕ → Reader ExprTree
 operand_at None at left room ts = Ok (OneExpr at left, ts)
 operand_at (Some op) at left room ts = do
@@ -158,7 +154,7 @@ not_at room ts = do
   atom ← atom_at (suc room) at.1
   Ok (NotExpr at.0 atom.0, atom.1)
 
--- atom "," atom ")", behind a "(" at a place
+-- atom "," atom ")", after a "(" at a place
 unfoldable pub two_at : Pos → ℕ → Reader ExprTree
 two_at at room ts = do
   first ← atom_at room ts
@@ -225,11 +221,7 @@ names_at ts = if leads_name ts then (do
 
 -- "(" [ name { "," name } ] ")"
 unfoldable pub args_at : ℕ → Reader (List NameTree)
-args_at room ts = do
-  begin ← take_open symbols.OpenParen room ts
-  names ← names_at begin.1
-  close ← take_symbol symbols.CloseParen names.1
-  Ok (names.0, close.1)
+args_at room ts = bracketed_with symbols.OpenParen symbols.CloseParen names_at room ts
 
 -- name [ "[" bound "]" ] "(" [ name { "," name } ] ")"
 unfoldable pub call_at : ℕ → Reader RhsTree

@@ -1,6 +1,7 @@
+use Rattle.tower.specs.Requests.{Format, Compile, Simulate, Invert}
 use Rattle.tower.proofs.OneAnswer.{one_answer}
 use Rattle.tower.proofs.WhenEnded.{only_where, comes, usage_only, complete}
-use Rattle.tower.proofs.Promises.{headline, formatted, inverted, simulated}
+use Rattle.tower.proofs.Promises.{promised}
 use Rattle.tower.proofs.call.tower_main.Goals as goal
 
 pub returns-clause-one_answer : goal.returns-clause-one_answer
@@ -11,16 +12,16 @@ returns-clause-complete g c =
     λ no_read no_write. complete _ _ _ c.args.words.now c.run.result (λ e. no_read (c.run.ensures.source.rose e)) (λ e. no_write (c.run.ensures.sink.rose e)) c.run.ensures.answered
 
 pub returns-clause-headline : goal.returns-clause-headline
-returns-clause-headline g c = headline _ _ _ c.args.words.now c.run.result c.run.ensures.answered
+returns-clause-headline g c = λ request. promised (Compile request) _ _ _ c.args.words.now c.run.result c.run.ensures.answered
 
 pub returns-clause-formatted : goal.returns-clause-formatted
-returns-clause-formatted g c = formatted _ _ _ c.args.words.now c.run.result c.run.ensures.answered
+returns-clause-formatted g c = promised Format _ _ _ c.args.words.now c.run.result c.run.ensures.answered
 
 pub returns-clause-inverted : goal.returns-clause-inverted
-returns-clause-inverted g c = inverted _ _ _ c.args.words.now c.run.result c.run.ensures.answered
+returns-clause-inverted g c = promised Invert _ _ _ c.args.words.now c.run.result c.run.ensures.answered
 
 pub returns-clause-simulated : goal.returns-clause-simulated
-returns-clause-simulated g c = simulated _ _ _ c.args.words.now c.run.result c.run.ensures.answered
+returns-clause-simulated g c = promised Simulate _ _ _ c.args.words.now c.run.result c.run.ensures.answered
 
 pub returns-clause-only_where : goal.returns-clause-only_where
 returns-clause-only_where g c = only_where _ _ _ c.args.words.now c.run.result c.run.ensures.answered

@@ -1,13 +1,13 @@
--- Each move of the machine opens and closes brackets as the count over the tokens does.
+-- Each move of the automaton opens and closes brackets as the count over the tokens does.
 use Rattle.std.proofs.Common.{◌≡◌, refl, ℕ, suc, List, [], ◌∷◌, ap, ◌∙◌, sym, subst, Bool, true, false, arith}
 use Rattle.tw_lex.specs.declared.symbol.Symbol.{Symbol}
 use Rattle.tw_lex.specs.declared.symbol.Symbol.TheVariants as symbols
 use Rattle.tw_lex.specs.Tokens.{Lexeme, Name, Number, Sign}
 use Rattle.tw_parse.specs.Prefixes.{announces, opens, closes}
 use Rattle.tw_parse.specs.reading.Steps.{is_symbol, is_component, is_bound_number}
-use Rattle.tw_parse.proofs.machine.Automaton.{Expected, Next, next, is_nullable, stands_alone, when, taken_mark, AfterFunName', AfterName', Angled', Args', Atom', Block', Body', Bound', BoundTail', CallArgs', Decl', ElseTail', Expr', ExprParen', FunBody', FunParams', LetArrow', MoreArgs', MoreParams', Name', OpTail', Params', Paren', Path', Rhs', Small', Step', Steps', Stmt', Stmts', Type', TheMark}
+use Rattle.tw_parse.proofs.automaton.Transitions.{Expected, Next, next, is_nullable, stands_alone, when, taken_mark, AfterFunName', AfterName', Angled', Args', Atom', Block', Body', Bound', BoundTail', CallArgs', Decl', ElseTail', Expr', ExprParen', FunBody', FunParams', LetArrow', MoreArgs', MoreParams', Name', OpTail', Params', Paren', Path', Rhs', Small', Step', Steps', Stmt', Stmts', Type', TheMark}
 use Rattle.tw_parse.proofs.tokens.Words.{is_symbol-true}
-use Rattle.tw_parse.proofs.machine.Awaited.{Holds}
+use Rattle.tw_parse.proofs.automaton.Awaited.{Holds}
 
 -- a closing mark is awaited here
 abbrev pub is_closing : Expected → Bool

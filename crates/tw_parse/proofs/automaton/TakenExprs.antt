@@ -1,17 +1,17 @@
--- The machine takes the text of each type, path, atom, expression and right side.
+-- The automaton takes the text of each type, path, atom, expression and right side.
 use Rattle.std.proofs.Common.{◌≡◌, refl, ℕ, ◌≤◌, List, ◌∷◌, ◌∙◌, sym, Bool, true}
 use Rattle.tw_text.specs.declared.place.Pos.{Pos}
 use Rattle.tw_lex.specs.declared.symbol.Symbol.TheVariants as symbols
 use Rattle.tw_lex.specs.Tokens.{Number, Lexed, number_at, sign_at}
 use Rattle.tw_parse.specs.Grammar.{TypeForm, type_text, PathForm, path_text, StepsForm, steps_text, AtomForm, atom_text, OpForm, op_symbol, ExprForm, expr_text, RhsForm, rhs_text, BoundForm, bound_text, CallBoundForm, NamesForm, names_text, MoreNamesForm, more_names_text}
-use Rattle.tw_parse.proofs.machine.Automaton.{Expected, TheMark, Small', Type', Paren', Path', Steps', Atom', Expr', ExprParen', OpTail', Rhs', AfterName', Bound', BoundTail', Args', MoreArgs', Next, when, move, settled}
+use Rattle.tw_parse.proofs.automaton.Transitions.{Expected, TheMark, Small', Type', Paren', Path', Steps', Atom', Expr', ExprParen', OpTail', Rhs', AfterName', Bound', BoundTail', Args', MoreArgs', Next, when, move, settled}
 use Rattle.tw_parse.specs.reading.Steps.{is_bound_number}
 use Rattle.tw_parse.proofs.tokens.Words.{is_bound_number-of}
-use Rattle.tw_parse.proofs.machine.Walks.{walk, moved}
+use Rattle.tw_parse.proofs.automaton.Walks.{walk, moved}
 
 -- the tokens go on with nothing of this
-abbrev pub Passes : Expected → List Lexed → Type 0
-Passes n k = (st : List Expected) → walk k (n ∷ st) ≡ walk k st
+abbrev pub IsEmptyBefore : Expected → List Lexed → Type 0
+IsEmptyBefore n k = (st : List Expected) → walk k (n ∷ st) ≡ walk k st
 
 paren_type : (c : TypeForm) (k : List Lexed) (st : List Expected)
     → walk (type_text c k) (Paren' ∷ st) ≡ walk (type_text c k) (Type' ∷ TheMark symbols.Comma refl ∷ Type' ∷ TheMark symbols.CloseParen refl ∷ st)
@@ -29,15 +29,15 @@ takes_type (TypeForm.Pair p first q second r) k st =
     ∙ (takes_type first (sign_at symbols.Comma q ∷ type_text second (sign_at symbols.CloseParen r ∷ k)) (TheMark symbols.Comma refl ∷ Type' ∷ TheMark symbols.CloseParen refl ∷ st)
     ∙ takes_type second (sign_at symbols.CloseParen r ∷ k) (TheMark symbols.CloseParen refl ∷ st))
 
-pub takes_steps : (c : StepsForm) (k : List Lexed) (st : List Expected) → Passes Steps' k → walk (steps_text c k) (Steps' ∷ st) ≡ walk k st
+pub takes_steps : (c : StepsForm) (k : List Lexed) (st : List Expected) → IsEmptyBefore Steps' k → walk (steps_text c k) (Steps' ∷ st) ≡ walk k st
 takes_steps StepsForm.NoSteps k st ends = ends st
 takes_steps (StepsForm.First p q rest) k st ends = takes_steps rest k st ends
 takes_steps (StepsForm.Second p q rest) k st ends = takes_steps rest k st ends
 
-pub takes_path : (c : PathForm) (k : List Lexed) (st : List Expected) → Passes Steps' k → walk (path_text c k) (Path' ∷ st) ≡ walk k st
+pub takes_path : (c : PathForm) (k : List Lexed) (st : List Expected) → IsEmptyBefore Steps' k → walk (path_text c k) (Path' ∷ st) ≡ walk k st
 takes_path c k st ends = takes_steps c.steps k st ends
 
-pub takes_atom : (c : AtomForm) (k : List Lexed) (st : List Expected) → Passes Steps' k → walk (atom_text c k) (Atom' ∷ st) ≡ walk k st
+pub takes_atom : (c : AtomForm) (k : List Lexed) (st : List Expected) → IsEmptyBefore Steps' k → walk (atom_text c k) (Atom' ∷ st) ≡ walk k st
 takes_atom (AtomForm.Place path) k st ends = takes_steps path.steps k st ends
 takes_atom (AtomForm.Number p value) k st ends = refl
 takes_atom (AtomForm.True p) k st ends = refl
@@ -55,7 +55,7 @@ paren_atom : (c : AtomForm) (k : List Lexed) (st : List Expected)
 paren_atom (AtomForm.True p) k st = refl
 paren_atom c k st = refl
 
-op_ends : (op : OpForm) (p : Pos) (k : List Lexed) → Passes Steps' (sign_at (op_symbol op) p ∷ k)
+op_ends : (op : OpForm) (p : Pos) (k : List Lexed) → IsEmptyBefore Steps' (sign_at (op_symbol op) p ∷ k)
 op_ends OpForm.Add p k st = refl
 op_ends op p k st = refl
 
@@ -67,7 +67,7 @@ takes_op_after_name : (op : OpForm) (p : Pos) (k : List Lexed) (st : List Expect
 takes_op_after_name OpForm.Add p k st = refl
 takes_op_after_name op p k st = refl
 
-pub takes_expr : (c : ExprForm) (k : List Lexed) (st : List Expected) → Passes Steps' k → Passes OpTail' k → walk (expr_text c k) (Expr' ∷ st) ≡ walk k st
+pub takes_expr : (c : ExprForm) (k : List Lexed) (st : List Expected) → IsEmptyBefore Steps' k → IsEmptyBefore OpTail' k → walk (expr_text c k) (Expr' ∷ st) ≡ walk k st
 takes_expr (ExprForm.Not p atom) k st ends alone = takes_atom atom k st ends
 takes_expr (ExprForm.Two p first q second r) k st ends alone =
     paren_atom first (sign_at symbols.Comma q ∷ atom_text second (sign_at symbols.CloseParen r ∷ k)) st
@@ -85,7 +85,7 @@ takes_small value small p k st = go (is_bound_number value) (is_bound_number-of 
     go : (is : Bool) → is ≡ true → moved (settled (when is (Next.Take st)) (move (Number value) st)) (walk k) ≡ walk k st
     go is e = rw e refl
 
-pub takes_bound : (c : BoundForm) (k : List Lexed) (st : List Expected) → Passes BoundTail' k → walk (bound_text c k) (Bound' ∷ st) ≡ walk k st
+pub takes_bound : (c : BoundForm) (k : List Lexed) (st : List Expected) → IsEmptyBefore BoundTail' k → walk (bound_text c k) (Bound' ∷ st) ≡ walk k st
 takes_bound (BoundForm.Fixed p value small) k st ends = takes_small value small p k st
 takes_bound (BoundForm.Named p name) k st ends = ends st
 takes_bound (BoundForm.Less p name q r value small) k st ends = takes_small value small r k st
@@ -100,19 +100,19 @@ takes_args (NamesForm.Names p name rest) r k st = takes_more_args rest r k st
 
 -- what goes on neither as a path nor as an expression nor as a call
 pub record EndsRhs (k : List Lexed) : Type 0 where
-  pub path : Passes Steps' k
-  pub op : Passes OpTail' k
-  pub name : Passes AfterName' k
+  pub path : IsEmptyBefore Steps' k
+  pub op : IsEmptyBefore OpTail' k
+  pub name : IsEmptyBefore AfterName' k
 
--- behind a name the steps of a path are as in an expression
-after_name_steps : (c : StepsForm) (k : List Lexed) (st : List Expected) → walk k (AfterName' ∷ st) ≡ walk k (OpTail' ∷ st) → Passes Steps' k
+-- after a name the steps of a path are as in an expression
+after_name_steps : (c : StepsForm) (k : List Lexed) (st : List Expected) → walk k (AfterName' ∷ st) ≡ walk k (OpTail' ∷ st) → IsEmptyBefore Steps' k
     → walk (steps_text c k) (AfterName' ∷ st) ≡ walk k (OpTail' ∷ st)
 after_name_steps StepsForm.NoSteps k st same ends = same
 after_name_steps (StepsForm.First p q rest) k st same ends = takes_steps rest k (OpTail' ∷ st) ends
 after_name_steps (StepsForm.Second p q rest) k st same ends = takes_steps rest k (OpTail' ∷ st) ends
 
 -- what does not begin with a name is as an expression
-plain_atom : (c : AtomForm) (k : List Lexed) (st : List Expected) → walk k (AfterName' ∷ st) ≡ walk k (OpTail' ∷ st) → Passes Steps' k
+plain_atom : (c : AtomForm) (k : List Lexed) (st : List Expected) → walk k (AfterName' ∷ st) ≡ walk k (OpTail' ∷ st) → IsEmptyBefore Steps' k
     → walk (atom_text c k) (Rhs' ∷ st) ≡ walk k (OpTail' ∷ st)
 plain_atom (AtomForm.Place path) k st same ends = after_name_steps path.steps k st same ends
 plain_atom (AtomForm.Number p value) k st same ends = refl

@@ -1,11 +1,11 @@
--- Each move of the machine is a step of the grammar: parameters, functions and declarations.
+-- Each move of the automaton is a step of the grammar: parameters, functions and declarations.
 use Rattle.std.proofs.Common.{refl, ℕ, List, ◌∷◌}
 use Rattle.tw_text.specs.declared.place.Pos.{Pos}
 use Rattle.tw_lex.specs.declared.symbol.Symbol.TheVariants as symbols
 use Rattle.tw_lex.specs.Tokens.{Lexeme, Name, Sign, Lexed, name_at, sign_at}
 use Rattle.tw_parse.specs.Statements.{MoreParamsForm, ParamsForm, FunBoundForm, DeclForm}
-use Rattle.tw_parse.proofs.machine.Automaton.{Expected, TheMark, Name', Type', FunBody', AfterFunName', FunParams', Params', MoreParams', Decl'}
-use Rattle.tw_parse.proofs.machine.Awaited.{spelled, joined, Has, Forest, Built}
+use Rattle.tw_parse.proofs.automaton.Transitions.{Expected, TheMark, Name', Type', FunBody', AfterFunName', FunParams', Params', MoreParams', Decl'}
+use Rattle.tw_parse.proofs.automaton.Awaited.{spelled, joined, Has, Forest, Built}
 
 pub builds_more_params : (w : Lexeme) → Built MoreParams' w
 builds_more_params (Sign symbols.Comma) p ts st = λ f. further p ts st f

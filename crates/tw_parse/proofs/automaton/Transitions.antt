@@ -1,5 +1,6 @@
 -- Which tokens may stand next: a stack of what is still awaited, and what the next token makes of it.
 use Rattle.std.specs.Prelude.{◌≡◌, refl, ℕ, zero, suc, Bool, true, false, List, [], ◌∷◌, length, codes}
+use Rattle.tw_text.specs.declared.limits.TheConstants.{NESTING_LIMIT}
 use Rattle.tw_text.specs.declared.place.Pos.{Pos}
 use Rattle.tw_lex.specs.declared.symbol.Symbol.{Symbol}
 use Rattle.tw_lex.specs.declared.symbol.Symbol.TheVariants as symbols
@@ -29,26 +30,26 @@ pub data Expected : Type 0 where
   -- "<" type ">"
   Angled' : Expected
   Type' : Expected
-  -- behind the "(" of a type: ")" | type "," type ")"
+  -- after the "(" of a type: ")" | type "," type ")"
   Paren' : Expected
   Path' : Expected
   -- { "." ( "1" | "2" ) }
   Steps' : Expected
   Atom' : Expected
   Expr' : Expected
-  -- behind the "(" of an expression: ")" [ op atom ] | atom "," atom ")"
+  -- after the "(" of an expression: ")" [ op atom ] | atom "," atom ")"
   ExprParen' : Expected
   -- [ op atom ]
   OpTail' : Expected
   Rhs' : Expected
-  -- behind the name that a right side begins with: [ "[" bound "]" ] "(" .. ")" | steps [ op atom ]
+  -- after the name that a right side begins with: [ "[" bound "]" ] "(" .. ")" | steps [ op atom ]
   AfterName' : Expected
   Bound' : Expected
   -- [ "-" number ]
   BoundTail' : Expected
   -- "(" [ name { "," name } ] ")"
   CallArgs' : Expected
-  -- the same behind "("
+  -- the same after "("
   Args' : Expected
   -- { "," name } ")"
   MoreArgs' : Expected
@@ -68,7 +69,7 @@ pub data Expected : Type 0 where
   AfterFunName' : Expected
   -- "(" [ param { "," param } ] ")"
   FunParams' : Expected
-  -- the same behind "("
+  -- the same after "("
   Params' : Expected
   -- { "," param } ")"
   MoreParams' : Expected
@@ -83,7 +84,7 @@ is_nullable BoundTail' = true
 is_nullable ElseTail' = true
 is_nullable n = false
 
--- what becomes of a token, and what is awaited behind it
+-- what becomes of a token, and what is awaited after it
 pub data Next : Type 0 where
   -- it is taken
   Take : (stack : List Expected) → Next
@@ -91,7 +92,7 @@ pub data Next : Type 0 where
   Open : (stack : List Expected) → Next
   -- it is taken, and closes a bracket
   Shut : (stack : List Expected) → Next
-  -- it belongs to what is awaited behind
+  -- the first of the stack is empty here, and the token belongs to the next of the stack
   Pop : Next
   -- it may not stand here
   Stop : Next
@@ -153,7 +154,7 @@ next_stmt (Sign symbols.OpenBrace) st = Open (Stmts' ∷ st)
 next_stmt (Sign symbols.Skip) st = Take (TheMark symbols.Semicolon refl ∷ st)
 next_stmt w st = Stop
 
--- what a word makes of the first that is awaited, with what is awaited behind it
+-- what a word makes of the first that is awaited, with what is awaited after it
 abbrev pub next : Expected → Lexeme → List Expected → Next
 next (TheMark mark alone) w st = next_mark mark w st
 next Name' (Name text) st = Take st
@@ -225,12 +226,12 @@ next Decl' (Sign symbols.Type) st = Take (Name' ∷ TheMark symbols.Define refl 
 next Decl' (Sign symbols.Fun) st = Take (Name' ∷ AfterFunName' ∷ TheMark symbols.Arrow refl ∷ Type' ∷ FunBody' ∷ st)
 next Decl' w st = Stop
 
--- a word that belongs to what is awaited behind is seen there
+-- where the first of the stack is empty, the next of the stack decides
 abbrev pub settled : Next → Next → Next
-settled Pop behind = behind
-settled now behind = now
+settled Pop after = after
+settled now after = now
 
--- what a word makes of a stack; behind a program a further declaration may stand
+-- what a word makes of a stack; after a program a further declaration may stand
 abbrev pub move : Lexeme → List Expected → Next
 move w [] = next Decl' w []
 move w (n ∷ st) = settled (next n w st) (move w st)
@@ -242,8 +243,8 @@ pub data Outcome : Type 0 where
   Deep : (left : ℕ) → Outcome
 
 abbrev pub left_at_end : Bool → Outcome → Outcome
-left_at_end true behind = behind
-left_at_end false behind = Fail 0
+left_at_end true after = after
+left_at_end false after = Fail 0
 
 -- what the end of the tokens makes of a stack: no token of what is awaited may be missing
 abbrev pub at_end : List Expected → Outcome
@@ -266,7 +267,7 @@ run (t ∷ ts) room st = went (move t.lexeme st) room (run ts) (suc (length ts))
 
 -- what the tokens of a whole text come to
 abbrev pub verdict : List Lexed → Outcome
-verdict toks = run toks 64 (Decl' ∷ [])
+verdict toks = run toks NESTING_LIMIT (Decl' ∷ [])
 
 abbrev pub here : Pos
 here = record { line = 1; col = 1 }
@@ -274,7 +275,7 @@ here = record { line = 1; col = 1 }
 abbrev pub alias : List Lexed → List Lexed
 alias body = sign_at symbols.Type here ∷ name_at (codes "a") here ∷ sign_at symbols.Define here ∷ body
 
--- so many "(" in front of a type
+-- so many "(" before a type
 abbrev pub nested : ℕ → List Lexed
 nested zero = sign_at symbols.CloseParen here ∷ []
 nested (suc n) = sign_at symbols.OpenParen here ∷ nested n

@@ -1,12 +1,12 @@
--- Each move of the machine is a step of the grammar: statements and blocks.
+-- Each move of the automaton is a step of the grammar: statements and blocks.
 use Rattle.std.proofs.Common.{◌≡◌, refl, List, ◌∷◌, ap, false}
 use Rattle.tw_text.specs.declared.place.Pos.{Pos}
 use Rattle.tw_lex.specs.declared.symbol.Symbol.TheVariants as symbols
 use Rattle.tw_lex.specs.Tokens.{Lexeme, Name, Sign, Lexed, name_at, sign_at}
 use Rattle.tw_parse.specs.Grammar.{RhsForm, rhs_text}
 use Rattle.tw_parse.specs.Statements.{StmtForm, stmt_text, BlockForm, StmtsForm}
-use Rattle.tw_parse.proofs.machine.Automaton.{Expected, TheMark, Name', LetArrow', Path', Rhs', Stmt', Stmts', ElseTail', Block', Body', FunBody', next_stmt}
-use Rattle.tw_parse.proofs.machine.Awaited.{spelled, respelled, joined, NameForm, name_text, LetArrowForm, let_arrow_text, Has, Forest, Built, builds_as}
+use Rattle.tw_parse.proofs.automaton.Transitions.{Expected, TheMark, Name', LetArrow', Path', Rhs', Stmt', Stmts', ElseTail', Block', Body', FunBody', next_stmt}
+use Rattle.tw_parse.proofs.automaton.Awaited.{spelled, respelled, joined, NameForm, name_text, LetArrowForm, let_arrow_text, Has, Forest, Built, builds_as}
 use Rattle.tw_parse.proofs.tokens.Words.{tok}
 
 -- a "let" by its arrow

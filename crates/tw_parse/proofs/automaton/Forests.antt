@@ -1,16 +1,16 @@
--- Tokens that the machine takes meet what is awaited, so whole ones that it takes are a program.
+-- Tokens that the automaton takes meet what is awaited, so whole ones that it takes are a program.
 use Rattle.std.proofs.Common.{◌≡◌, refl, List, [], ◌∷◌, ap, ◌∙◌, ◌⊎◌, inl, inr, Bool, true, false, Some, arith}
 use Rattle.tw_lex.specs.Tokens.{Lexeme, Lexed}
 use Rattle.tw_parse.specs.Grammar.{AtomForm, ExprForm, RhsForm, BoundForm, StepsForm}
 use Rattle.tw_parse.specs.Statements.{StmtForm, ProgramForm, decl_text}
 use Rattle.tw_parse.specs.Prefixes.{IsProgram}
-use Rattle.tw_parse.proofs.machine.Automaton.{Expected, TheMark, Name', Step', Small', Angled', Type', Paren', Path', Steps', Atom', Expr', ExprParen', OpTail', Rhs', AfterName', Bound', BoundTail', CallArgs', Args', MoreArgs', Stmt', LetArrow', Stmts', ElseTail', Block', Body', FunBody', AfterFunName', FunParams', Params', MoreParams', Decl', is_nullable, Next, next, move, settled, at_end, left_at_end, Accept}
-use Rattle.tw_parse.proofs.machine.Awaited.{Has, Forest, Holds, Builds, Built, builds_as}
-use Rattle.tw_parse.proofs.machine.Walks.{walk, moved}
-use Rattle.tw_parse.proofs.machine.BuiltTypes.{builds_mark, builds_name, builds_step, builds_small, builds_let_arrow, builds_angled, builds_type, builds_paren}
-use Rattle.tw_parse.proofs.machine.BuiltExprs.{builds_path, builds_steps, builds_atom, builds_expr, builds_expr_paren, builds_op_tail, builds_rhs, builds_after_name, builds_bound, builds_bound_tail, builds_call_args, builds_args, builds_more_args}
-use Rattle.tw_parse.proofs.machine.BuiltStmts.{builds_stmt, builds_stmts, builds_else_tail, builds_block, builds_body, builds_fun_body}
-use Rattle.tw_parse.proofs.machine.BuiltDecls.{builds_after_fun_name, builds_fun_params, builds_params, builds_more_params, builds_decl}
+use Rattle.tw_parse.proofs.automaton.Transitions.{Expected, TheMark, Name', Step', Small', Angled', Type', Paren', Path', Steps', Atom', Expr', ExprParen', OpTail', Rhs', AfterName', Bound', BoundTail', CallArgs', Args', MoreArgs', Stmt', LetArrow', Stmts', ElseTail', Block', Body', FunBody', AfterFunName', FunParams', Params', MoreParams', Decl', is_nullable, Next, next, move, settled, at_end, left_at_end, Accept}
+use Rattle.tw_parse.proofs.automaton.Awaited.{Has, Forest, Holds, Builds, Built, builds_as}
+use Rattle.tw_parse.proofs.automaton.Walks.{walk, moved}
+use Rattle.tw_parse.proofs.automaton.BuiltTypes.{builds_mark, builds_name, builds_step, builds_small, builds_let_arrow, builds_angled, builds_type, builds_paren}
+use Rattle.tw_parse.proofs.automaton.BuiltExprs.{builds_path, builds_steps, builds_atom, builds_expr, builds_expr_paren, builds_op_tail, builds_rhs, builds_after_name, builds_bound, builds_bound_tail, builds_call_args, builds_args, builds_more_args}
+use Rattle.tw_parse.proofs.automaton.BuiltStmts.{builds_stmt, builds_stmts, builds_else_tail, builds_block, builds_body, builds_fun_body}
+use Rattle.tw_parse.proofs.automaton.BuiltDecls.{builds_after_fun_name, builds_fun_params, builds_params, builds_more_params, builds_decl}
 
 -- at each word the move of each thing that is awaited builds it
 pub builds : (n : Expected) (w : Lexeme) → Built n w
@@ -65,13 +65,13 @@ begun ts f = go f.more
     go (inl end) = (ProgramForm.Last f.form, f.parts ∙ ap (decl_text f.form) end)
     go (inr more) = (ProgramForm.Decls f.form more.0, f.parts ∙ ap (decl_text f.form) more.1)
 
-settles : (n : Expected) (us ts : List Lexed) (st : List Expected) (now behind : Next) → Builds (is_nullable n) (Has n us (Forest st)) ts now → Builds false (Forest st us) ts behind
-    → Builds false (Has n us (Forest st)) ts (settled now behind)
-settles n us ts st Next.Pop behind built under = builds_as false ts behind (passed n us st built) under
-settles n us ts st (Next.Take more) behind built under = built
-settles n us ts st (Next.Open more) behind built under = built
-settles n us ts st (Next.Shut more) behind built under = built
-settles n us ts st Next.Stop behind built under = tt
+settles : (n : Expected) (us ts : List Lexed) (st : List Expected) (now after : Next) → Builds (is_nullable n) (Has n us (Forest st)) ts now → Builds false (Forest st us) ts after
+    → Builds false (Has n us (Forest st)) ts (settled now after)
+settles n us ts st Next.Pop after built under = builds_as false ts after (passed n us st built) under
+settles n us ts st (Next.Take more) after built under = built
+settles n us ts st (Next.Open more) after built under = built
+settles n us ts st (Next.Shut more) after built under = built
+settles n us ts st Next.Stop after built under = tt
 
 moves : (t : Lexed) (ts : List Lexed) (st : List Expected) → Builds false (Forest st (t ∷ ts)) ts (move t.lexeme st)
 moves t ts [] = builds_as false ts (next Decl' t.lexeme []) (λ f. inr (begun (t ∷ ts) f)) (builds_decl t.lexeme t.at ts [])
@@ -89,11 +89,11 @@ ended (n ∷ st) e = go (is_nullable n) (passed n [] st) (λ h. ended st h) e
 
 grown : {Goal : Type 0} (ts : List Lexed) (rest : List Expected) (next : Next) → Builds false Goal ts next → ((st : List Expected) → walk ts st ≡ Some rest → Forest st ts)
     → moved next (walk ts) ≡ Some rest → Goal
-grown ts rest (Next.Take st) built behind e = built (behind st e)
-grown ts rest (Next.Open st) built behind e = built (behind st e)
-grown ts rest (Next.Shut st) built behind e = built (behind st e)
-grown ts rest Next.Pop built behind e = absurd built
-grown ts rest Next.Stop built behind e = absurd (grind arith)
+grown ts rest (Next.Take st) built after e = built (after st e)
+grown ts rest (Next.Open st) built after e = built (after st e)
+grown ts rest (Next.Shut st) built after e = built (after st e)
+grown ts rest Next.Pop built after e = absurd built
+grown ts rest Next.Stop built after e = absurd (grind arith)
 
 -- tokens that are taken to where no further one is needed meet what is awaited
 pub forest : (ts : List Lexed) (st rest : List Expected) → walk ts st ≡ Some rest → at_end rest ≡ Accept → Forest st ts

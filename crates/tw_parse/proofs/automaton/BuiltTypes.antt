@@ -1,4 +1,4 @@
--- Each move of the machine is a step of the grammar: single tokens and types.
+-- Each move of the automaton is a step of the grammar: single tokens and types.
 use Rattle.std.proofs.Common.{◌≡◌, refl, ◌≤◌, List, ◌∷◌, ap, Bool, true, false, ◌⊎◌, inl, inr}
 use Rattle.tw_lex.specs.declared.symbol.Symbol.{Symbol}
 use Rattle.tw_lex.specs.declared.symbol.Symbol.TheVariants as symbols
@@ -6,9 +6,9 @@ use Rattle.tw_lex.specs.Tokens.{Lexeme, Name, Number, Sign, Lexed, number_at, si
 use Rattle.tw_parse.specs.Grammar.{TypeForm}
 use Rattle.tw_parse.specs.Prefixes.{closes}
 use Rattle.tw_parse.specs.reading.Steps.{is_symbol, is_component, is_bound_number}
-use Rattle.tw_parse.proofs.machine.Automaton.{Expected, TheMark, Name', Step', Small', LetArrow', Type', Paren', Angled', Next, when, taken_mark, stands_alone, next_type}
+use Rattle.tw_parse.proofs.automaton.Transitions.{Expected, TheMark, Name', Step', Small', LetArrow', Type', Paren', Angled', Next, when, taken_mark, stands_alone, next_type}
 use Rattle.tw_parse.proofs.tokens.Words.{tok, is_symbol-true, is_component-true, is_bound_number-true}
-use Rattle.tw_parse.proofs.machine.Awaited.{spelled, joined, StepForm, LetArrowForm, Has, Forest, Builds, Built, builds_as}
+use Rattle.tw_parse.proofs.automaton.Awaited.{spelled, joined, StepForm, LetArrowForm, Has, Forest, Builds, Built, builds_as}
 
 pub builds_mark : (mark : Symbol) (alone : stands_alone mark ≡ true) (w : Lexeme) → Built (TheMark mark alone) w
 builds_mark mark alone w p ts st = go (is_symbol mark w) (closes (Sign mark)) (λ e. is_symbol-true mark w e)
@@ -65,5 +65,5 @@ paired ts st f q = spelled (λ x. sign_at symbols.OpenParen q ∷ x) (λ c. Type
 pub builds_paren : (w : Lexeme) → Built Paren' w
 builds_paren (Sign symbols.CloseParen) p ts st = λ f q. record { form = TypeForm.Unit q p; rest = ts; parts = refl; more = f }
 builds_paren w p ts st =
-    let behind = TheMark symbols.Comma refl ∷ Type' ∷ TheMark symbols.CloseParen refl ∷ st in
-    builds_as false ts (next_type w behind) (paired (tok w p ∷ ts) st) (builds_type w p ts behind)
+    let after = TheMark symbols.Comma refl ∷ Type' ∷ TheMark symbols.CloseParen refl ∷ st in
+    builds_as false ts (next_type w after) (paired (tok w p ∷ ts) st) (builds_type w p ts after)

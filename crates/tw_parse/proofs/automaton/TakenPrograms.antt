@@ -1,13 +1,13 @@
--- The machine takes the text of each declaration and program.
+-- The automaton takes the text of each declaration and program.
 use Rattle.std.proofs.Common.{◌≡◌, refl, List, [], ◌∷◌, ◌∙◌, Some}
 use Rattle.tw_text.specs.declared.place.Pos.{Pos}
 use Rattle.tw_lex.specs.declared.symbol.Symbol.TheVariants as symbols
 use Rattle.tw_lex.specs.Tokens.{Lexed, name_at, sign_at}
 use Rattle.tw_parse.specs.Statements.{MoreParamsForm, more_params_text, ParamsForm, params_text, FunBoundForm, fun_bound_text, FunForm, fun_text, DeclForm, decl_text, ProgramForm, program_text}
-use Rattle.tw_parse.proofs.machine.Automaton.{Expected, TheMark, Type', Body', FunBody', AfterFunName', Params', MoreParams', Decl'}
-use Rattle.tw_parse.proofs.machine.Walks.{walk}
-use Rattle.tw_parse.proofs.machine.TakenExprs.{takes_type}
-use Rattle.tw_parse.proofs.machine.TakenStmts.{takes_stmts, body_absorbs}
+use Rattle.tw_parse.proofs.automaton.Transitions.{Expected, TheMark, Type', Body', FunBody', AfterFunName', Params', MoreParams', Decl'}
+use Rattle.tw_parse.proofs.automaton.Walks.{walk}
+use Rattle.tw_parse.proofs.automaton.TakenExprs.{takes_type}
+use Rattle.tw_parse.proofs.automaton.TakenStmts.{takes_stmts, body_absorbs}
 
 pub takes_more_params : (c : MoreParamsForm) (q : Pos) (k : List Lexed) (st : List Expected) → walk (more_params_text c (sign_at symbols.CloseParen q ∷ k)) (MoreParams' ∷ st) ≡ walk k st
 takes_more_params MoreParamsForm.NoMoreParams q k st = refl
@@ -35,7 +35,7 @@ pub takes_decl : (c : DeclForm) (k : List Lexed) (st : List Expected) → walk (
 takes_decl (DeclForm.Alias p n name q body r) k st = takes_type body (sign_at symbols.Semicolon r ∷ k) (TheMark symbols.Semicolon refl ∷ st)
 takes_decl (DeclForm.Fun fun) k st = takes_fun fun k st
 
--- behind a declaration a program goes on as it begins
+-- after a declaration a program goes on as it begins
 goes_on : (c : ProgramForm) (k : List Lexed) → walk (program_text c k) [] ≡ walk (program_text c k) (Decl' ∷ [])
 goes_on (ProgramForm.Last (DeclForm.Alias p n name q body r)) k = refl
 goes_on (ProgramForm.Last (DeclForm.Fun fun)) k = refl

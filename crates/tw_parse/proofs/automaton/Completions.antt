@@ -5,10 +5,10 @@ use Rattle.tw_lex.specs.declared.symbol.Symbol.TheVariants as symbols
 use Rattle.tw_lex.specs.Tokens.{Sign, Lexed, name_at, number_at, sign_at}
 use Rattle.tw_parse.specs.Prefixes.{closes}
 use Rattle.tw_parse.specs.reading.Steps.{is_symbol}
-use Rattle.tw_parse.proofs.machine.Automaton.{Expected, TheMark, Name', Step', Small', Angled', Type', Paren', Path', Steps', Atom', Expr', ExprParen', OpTail', Rhs', AfterName', Bound', BoundTail', CallArgs', Args', MoreArgs', Stmt', LetArrow', Stmts', ElseTail', Block', Body', FunBody', AfterFunName', FunParams', Params', MoreParams', Decl', stands_alone, when, taken_mark, settled, move, here}
+use Rattle.tw_parse.proofs.automaton.Transitions.{Expected, TheMark, Name', Step', Small', Angled', Type', Paren', Path', Steps', Atom', Expr', ExprParen', OpTail', Rhs', AfterName', Bound', BoundTail', CallArgs', Args', MoreArgs', Stmt', LetArrow', Stmts', ElseTail', Block', Body', FunBody', AfterFunName', FunParams', Params', MoreParams', Decl', stands_alone, when, taken_mark, settled, move, here}
 use Rattle.tw_parse.proofs.tokens.Words.{is_symbol-same}
-use Rattle.tw_parse.proofs.machine.Walks.{walk, moved}
-use Rattle.tw_parse.proofs.machine.TakenExprs.{Passes}
+use Rattle.tw_parse.proofs.automaton.Walks.{walk, moved}
+use Rattle.tw_parse.proofs.automaton.TakenExprs.{IsEmptyBefore}
 
 abbrev mark : Symbol → Lexed
 mark x = sign_at x here
@@ -19,7 +19,7 @@ name = name_at [] here
 abbrev number : Lexed
 number = number_at 1 here
 
--- some tokens that are this, in front of what follows
+-- some tokens that are this, before what follows
 abbrev pub filler : Expected → List Lexed → List Lexed
 filler (TheMark x alone) k = mark x ∷ k
 filler Name' k = name ∷ k
@@ -60,11 +60,11 @@ completion [] = filler Decl' []
 completion (n ∷ st) = filler n (completion st)
 
 -- no completion goes on with a path
-mark_ends : (x : Symbol) → stands_alone x ≡ true → (k : List Lexed) → Passes Steps' (mark x ∷ k)
+mark_ends : (x : Symbol) → stands_alone x ≡ true → (k : List Lexed) → IsEmptyBefore Steps' (mark x ∷ k)
 mark_ends symbols.Dot alone k = absurd (grind arith)
 mark_ends x alone k = λ st. refl
 
-completion_ends : (st : List Expected) → Passes Steps' (completion st)
+completion_ends : (st : List Expected) → IsEmptyBefore Steps' (completion st)
 completion_ends [] = λ st. refl
 completion_ends (Steps' ∷ st) = completion_ends st
 completion_ends (TheMark x alone ∷ st) = mark_ends x alone (completion st)

@@ -7,7 +7,7 @@ use Rattle.tw_lex.specs.Tokens.{Lexeme, Lexed, name_at, number_at, sign_at}
 use Rattle.tw_parse.specs.Grammar.{TypeForm, type_text, PathForm, path_text, steps_text, AtomForm, atom_text, expr_text, rhs_text, bound_text, NamesForm, names_text, MoreNamesForm, more_names_text}
 use Rattle.tw_parse.specs.Statements.{stmt_text, StmtsForm, stmts_text, BlockForm, block_text, ParamsForm, params_text, MoreParamsForm, more_params_text, FunBoundForm, fun_bound_text, decl_text}
 use Rattle.tw_parse.specs.Prefixes.{IsProgram}
-use Rattle.tw_parse.proofs.machine.Automaton.{Expected, TheMark, Name', Step', Small', Angled', Type', Paren', Path', Steps', Atom', Expr', ExprParen', OpTail', Rhs', AfterName', Bound', BoundTail', CallArgs', Args', MoreArgs', Stmt', LetArrow', Stmts', ElseTail', Block', Body', FunBody', AfterFunName', FunParams', Params', MoreParams', Decl', is_nullable, Next, next}
+use Rattle.tw_parse.proofs.automaton.Transitions.{Expected, TheMark, Name', Step', Small', Angled', Type', Paren', Path', Steps', Atom', Expr', ExprParen', OpTail', Rhs', AfterName', Bound', BoundTail', CallArgs', Args', MoreArgs', Stmt', LetArrow', Stmts', ElseTail', Block', Body', FunBody', AfterFunName', FunParams', Params', MoreParams', Decl', is_nullable, Next, next}
 use Rattle.tw_parse.proofs.tokens.Words.{tok}
 
 -- the tokens begin with the text of a form, and what follows has K
@@ -17,7 +17,7 @@ pub record Spelled {C : Type 0} (text : C → List Lexed → List Lexed) (ts : L
   pub parts : ts ≡ text form rest
   pub more : K rest
 
--- tokens in front, and another form for the longer text
+-- tokens before these, and another form for the longer text
 pub spelled : {C D : Type 0} {text : C → List Lexed → List Lexed} {other : D → List Lexed → List Lexed} {ts : List Lexed} {K : List Lexed → Type 0}
     (front : List Lexed → List Lexed) (make : C → D)
     → ((c : C) (k : List Lexed) → front (text c k) ≡ other (make c) k) → Spelled text ts K → Spelled other (front ts) K
@@ -118,7 +118,7 @@ fun_params_text form k = sign_at symbols.OpenParen form.0 ∷ params_end_text fo
 abbrev pub after_fun_name_text : FunBoundForm × (Pos × (ParamsForm × Pos)) → List Lexed → List Lexed
 after_fun_name_text form k = fun_bound_text form.0 (fun_params_text form.1 k)
 
--- the tokens begin with what is awaited, and what follows has K; where a rule has begun already, with its beginning in front they are the whole rule
+-- the tokens begin with what is awaited, and what follows has K; where a rule has begun already, with its beginning before them they are the whole rule
 abbrev pub Has : Expected → List Lexed → (List Lexed → Type 0) → Type 0
 Has (TheMark mark alone) ts K = Spelled (symbol_text mark) ts K
 Has Name' ts K = Spelled name_text ts K
@@ -153,7 +153,7 @@ Has Params' ts K = Spelled params_end_text ts K
 Has MoreParams' ts K = Spelled more_params_end_text ts K
 Has Decl' ts K = Spelled decl_text ts K
 
--- the tokens meet all that is awaited, and behind it they end or are a program
+-- the tokens meet all that is awaited, and after it they end or are a program
 abbrev pub Forest : List Expected → List Lexed → Type 0
 Forest [] ts = (ts ≡ []) ⊎ IsProgram ts
 Forest (n ∷ st) ts = Has n ts (Forest st)
@@ -162,7 +162,7 @@ abbrev pub Holds : Bool → Type 0
 Holds true = Unit {0}
 Holds false = ⊥
 
--- tokens that meet what is awaited behind a move give the goal; only what may be none is passed by
+-- tokens that meet what is awaited after a move give the goal; only what may be none is passed by
 abbrev pub Builds : Bool → Type 0 → List Lexed → Next → Type 0
 Builds nullable Goal ts (Next.Take st) = Forest st ts → Goal
 Builds nullable Goal ts (Next.Open st) = Forest st ts → Goal

@@ -1,19 +1,19 @@
--- Each move of the machine is a step of the grammar: paths, atoms, expressions and right sides.
+-- Each move of the automaton is a step of the grammar: paths, atoms, expressions and right sides.
 use Rattle.std.proofs.Common.{◌≡◌, refl, ℕ, List, ◌∷◌, ap, true, false}
 use Rattle.tw_text.specs.declared.place.Pos.{Pos}
 use Rattle.tw_lex.specs.declared.symbol.Symbol.TheVariants as symbols
 use Rattle.tw_lex.specs.Tokens.{Lexeme, Name, Number, Sign, Lexed, name_at, number_at, sign_at}
 use Rattle.tw_parse.specs.Grammar.{StepsForm, steps_text, AtomForm, atom_text, OpForm, op_symbol, ExprForm, expr_text, RhsForm, rhs_text, BoundForm, CallBoundForm, NamesForm, MoreNamesForm}
-use Rattle.tw_parse.proofs.machine.Automaton.{Expected, TheMark, Step', Small', Path', Steps', Atom', Expr', ExprParen', OpTail', Rhs', AfterName', Bound', BoundTail', CallArgs', Args', MoreArgs', next_atom, next_expr, next_op_tail}
-use Rattle.tw_parse.proofs.machine.Awaited.{Spelled, spelled, respelled, joined, StepForm, step_text, Has, Forest, Built, builds_as}
+use Rattle.tw_parse.proofs.automaton.Transitions.{Expected, TheMark, Step', Small', Path', Steps', Atom', Expr', ExprParen', OpTail', Rhs', AfterName', Bound', BoundTail', CallArgs', Args', MoreArgs', next_atom, next_expr, next_op_tail}
+use Rattle.tw_parse.proofs.automaton.Awaited.{Spelled, spelled, respelled, joined, StepForm, step_text, Has, Forest, Built, builds_as}
 use Rattle.tw_parse.proofs.tokens.Words.{tok}
-use Rattle.tw_parse.proofs.machine.BuiltTypes.{builds_small}
+use Rattle.tw_parse.proofs.automaton.BuiltTypes.{builds_small}
 
 pub builds_path : (w : Lexeme) → Built Path' w
 builds_path (Name text) p ts st = λ f. spelled (λ x. name_at text p ∷ x) (λ c. record { at = p; root = text; steps = c }) (λ c k. refl) f
 builds_path w p ts st = tt
 
--- a step and further ones, behind a "."
+-- a step and further ones, after a "."
 abbrev step_of : Pos → StepForm → StepsForm → StepsForm
 step_of p (StepForm.One q) rest = StepsForm.First p q rest
 step_of p (StepForm.Two q) rest = StepsForm.Second p q rest
@@ -40,7 +40,7 @@ builds_atom (Sign symbols.Null) p ts st = λ f. spelled (λ x. sign_at symbols.N
 builds_atom (Sign symbols.Default) p ts st = λ f. spelled (λ x. sign_at symbols.Default p ∷ x) (λ c. AtomForm.Default p c.open_at c.ty c.close_at) (λ c k. refl) f
 builds_atom w p ts st = tt
 
--- an atom, and behind it what makes it an expression
+-- an atom, and after it what makes it an expression
 operated : {K : List Lexed → Type 0} (ts : List Lexed) → Spelled atom_text ts (λ k. (atom : AtomForm) → Spelled expr_text (atom_text atom k) K) → Spelled expr_text ts K
 operated ts f = respelled f.parts (f.more f.form)
 
@@ -55,8 +55,8 @@ builds_expr w p ts st = builds_as false ts (next_atom w (OpTail' ∷ st)) (opera
 pub builds_expr_paren : (w : Lexeme) → Built ExprParen' w
 builds_expr_paren (Sign symbols.CloseParen) p ts st = λ f q. f (AtomForm.Nothing q p)
 builds_expr_paren w p ts st =
-    let behind = TheMark symbols.Comma refl ∷ Atom' ∷ TheMark symbols.CloseParen refl ∷ st in
-    builds_as false ts (next_atom w behind) (two_atoms (tok w p ∷ ts) st) (builds_atom w p ts behind)
+    let after = TheMark symbols.Comma refl ∷ Atom' ∷ TheMark symbols.CloseParen refl ∷ st in
+    builds_as false ts (next_atom w after) (two_atoms (tok w p ∷ ts) st) (builds_atom w p ts after)
 
 op_with : {K : List Lexed → Type 0} (op : OpForm) (p : Pos) (ts : List Lexed) → Spelled atom_text ts K
     → (atom : AtomForm) → Spelled expr_text (atom_text atom (sign_at (op_symbol op) p ∷ ts)) K
