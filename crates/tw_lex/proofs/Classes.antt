@@ -2,6 +2,7 @@
 use Rattle.std.proofs.Common.{◌≡◌, ◌≢◌, ◌∙◌, sym, ℕ, ◌<◌, ◌≤◌, ◌==◌, Bool, true, false, ◌||◌, if◌then◌else◌, List, [], ◌∷◌, length, decimal, refl, ap, arith}
 use Rattle.std.proofs.lemmas.Bool.{and_parts}
 use Rattle.std.specs.Char.{is_ascii_digit, is_ascii_alphabetic}
+use Rattle.std.specs.Int.{is_in_range}
 use Rattle.std.specs.Str.{all_ascii_digits}
 use Rattle.std.proofs.lemmas.Bool.Decides.{Decides-eqb, nat_tests}
 use Rattle.std.proofs.lemmas.Str.Parse.{numerals_by_value, tells_all_ascii_digits}
@@ -66,6 +67,21 @@ other_class false false k is e = omega arith
 
 pub no_class_digit : (c : ℕ) → starts_name c ≡ false → is_ascii_digit c ≡ false → class c ≡ 3 → ⊥
 no_class_digit c letter digit is = other_class (is_blank c) (c == 47) (class c) (class_by_tests c (is_blank c) (c == 47) false false refl refl letter digit) is
+
+-- the ASCII characters that continue a name
+any_order : (d u l e : Bool) → (((d || u) || l) || e) ≡ ((u || l) || (d || e))
+any_order true true l e = refl
+any_order true false true e = refl
+any_order true false false e = refl
+any_order false true l e = refl
+any_order false false true e = refl
+any_order false false false e = refl
+
+pub ascii_continues : (c : ℕ) → c < 128 → is_xid_continue c ≡ (is_ascii_alphabetic c || (is_ascii_digit c || (c == 95)))
+ascii_continues c small = is_xid_continue-ascii c small ∙ any_order (is_in_range 48 57 c) (is_in_range 65 90 c) (is_in_range 97 122 c) (c == 95)
+
+pub ascii_starts : (c : ℕ) → c < 128 → starts_name c ≡ (is_ascii_alphabetic c || (c == 95))
+ascii_starts c small = rw (is_xid_start-ascii c small) refl
 
 -- what goes on with no letter goes on with no digit
 digit_continues : (c : ℕ) → is_xid_continue c ≡ false → is_ascii_digit c ≡ false

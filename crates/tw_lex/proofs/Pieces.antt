@@ -1,8 +1,9 @@
 -- What the scanning functions find is a piece, and where they find none no piece of its sort stands.
-use Rattle.std.proofs.Common.{◌≡◌, ◌∙◌, ap, sym, ℕ, ◌+◌, ◌<◌, ◌^◌, Bool, true, false, List, [], ◌∷◌, ◌++◌, append_assoc, length, length-append, codes, decimal, Option, Some, None, refl, arith}
+use Rattle.std.proofs.Common.{◌≡◌, ◌∙◌, ap, sym, subst, ℕ, ◌+◌, ◌<◌, ◌^◌, ◌==◌, Bool, true, false, List, [], ◌∷◌, ◌++◌, append_assoc, length, length-append, codes, decimal, Option, Some, None, refl, arith}
 use Rattle.std.specs.Option.{IfNone}
 use Rattle.std.specs.Char.{is_ascii_digit}
 use Rattle.std.specs.Str.{chars, IsUtf8, encode_utf8_all, all_ascii_digits}
+use Rattle.std.proofs.lemmas.Bool.Decides.{Decides-eqb}
 use Rattle.std.proofs.lemmas.List.{append_cancel_right}
 use Rattle.std.proofs.lemmas.Str.{chars-IsAscii, encodes-chars, encodes-IsAscii, encodes-append}
 use Rattle.std.proofs.lemmas.Str.Parse.{numerals_by_value, tells_all_ascii_digits}
@@ -36,21 +37,24 @@ word-is taken c cs (Some symbol) is starts utf8 spelled =
     let text : symbol_text symbol ≡ c ∷ cs = find_symbol-text all_symbols (c ∷ cs) symbol (sym is) in
     (refl, (sym (encodes-chars taken utf8) ∙ ap encode_utf8_all (spelled ∙ sym text) ∙ encodes-symbol symbol, sym (keyword-starts symbol) ∙ ap (starts_with starts_name) text ∙ starts))
 
+pub found_letters : (text following rest : List ℕ) (c count : ℕ) → Begins text c following → starts_name c ≡ true → (r : RunsTo is_xid_continue following rest count) → Found text rest (count + 1) (word_kind (symbol_of (c ∷ r.runs.run)))
+found_letters text following rest c count b starts r = record {
+  piece = Letters c r.runs.run;
+  parts = b.spelled ∙ ap (λ x. c ∷ x) r.runs.parts;
+  stands = (starts, r.runs.all, r.ends);
+  is = λ taken utf8 spelled. word-is taken c r.runs.run (symbol_of (c ∷ r.runs.run)) refl starts utf8 spelled;
+  in_line = name-in_line c r.runs.run starts r.runs.all;
+  counted = omega (arith, r.runs.counted);
+  short = omega (arith, r.runs.short, b.shorter);
+  behind = ends_with_both text following rest b.behind r.runs.behind;
+}
+
 pub found_word : (text following rest word : List ℕ) (c count : ℕ) → Begins text c following → starts_name c ≡ true → RunsTo is_xid_continue following rest count
     → chars text ≡ chars word ++ chars rest → Found text rest (count + 1) (word_kind (symbol_of (chars word)))
 found_word text following rest word c count b starts r cut =
     let parts : chars text ≡ (c ∷ r.runs.run) ++ chars rest = b.spelled ∙ ap (λ x. c ∷ x) r.runs.parts in
     let same : chars word ≡ c ∷ r.runs.run = append_cancel_right (chars word) (c ∷ r.runs.run) (chars rest) (sym cut ∙ parts) in
-    rw same (record {
-      piece = Letters c r.runs.run;
-      parts = parts;
-      stands = (starts, r.runs.all, r.ends);
-      is = λ taken utf8 spelled. word-is taken c r.runs.run (symbol_of (c ∷ r.runs.run)) refl starts utf8 spelled;
-      in_line = name-in_line c r.runs.run starts r.runs.all;
-      counted = omega (arith, r.runs.counted);
-      short = omega (arith, r.runs.short, b.shorter);
-      behind = ends_with_both text following rest b.behind r.runs.behind;
-    })
+    rw same (found_letters text following rest c count b starts r)
 
 all_digits : (value : ℕ) → value < 2 ^ 64 → all_ascii_digits (decimal value) ≡ true
 all_digits value small = digits_decimal (numerals_by_value _ tells_all_ascii_digits) value small
@@ -108,6 +112,15 @@ found_operator first more text rest symbol begins none found f utf8 utf8' =
       short = omega (arith, ap length bytes, length-append (symbol_text symbol) rest);
       behind = f.behind;
     }
+
+-- a symbol of one character with which no other begins
+pub found_alone : (first : ℕ) (text rest : List ℕ) (symbol : Symbol) → Begins text first rest → starts_name first ≡ false → symbols_from first ≡ symbol ∷ [] → symbol_text symbol ≡ first ∷ [] → IsUtf8 text → IsUtf8 rest
+    → Found text rest 1 (kind.Mark symbol)
+found_alone first text rest symbol b none only is utf8 utf8' =
+    let same : (first == first) ≡ true = (Decides-eqb first first).1 refl in
+    let front : find_front (symbols_from first) (chars text) ≡ Some symbol = rw (only, b.spelled, is, same) refl in
+    let follows : Follows text (symbol_text symbol) rest = record { spelled = b.spelled ∙ ap (λ cs. cs ++ chars rest) (sym (chars-symbol symbol ∙ is)); behind = b.behind } in
+    subst (λ (n : ℕ). Found text rest n (kind.Mark symbol)) (ap length is) (found_operator first (chars rest) text rest symbol b.spelled none front follows utf8 utf8')
 
 pub no_operator : (first : ℕ) (more text : List ℕ) → chars text ≡ first ∷ more → find_front (symbols_from first) (chars text) ≡ None → (symbol : Symbol) → Lacks (chars text) (Operator symbol)
 no_operator first more text begins none symbol mid parts stands =

@@ -7,7 +7,17 @@ ghost use Rattle.tw_text.specs.Cuts.{Begins};
 
 use tw_text::first_char;
 
+#[cold]
+#[inline(never)]
+fn wide_char(text: &str) -> Option<(char, &str)>
+    ensures some { IfSome result (λ found. Begins text.now found.0 found.1.now) }
+    ensures none { IfNone result (chars text.now ≡ []) }
+{
+    first_char(text)
+}
+
 /// The first character of a text, and what follows it; `None` of the empty text.
+#[inline(always)]
 pub fn leading_char(text: &str) -> Option<(char, &str)>
     ensures some { IfSome result (λ found. Begins text.now found.0 found.1.now) }
     ensures none { IfNone result (chars text.now ≡ []) }
@@ -19,5 +29,5 @@ pub fn leading_char(text: &str) -> Option<(char, &str)>
     if bytes[0] < 128 {
         return Some((bytes[0] as char, &text[1..]));
     }
-    first_char(text)
+    wide_char(text)
 }

@@ -18,7 +18,19 @@ fn is_blank(c: char) -> bool
     c == ' ' || c == '\n' || c == '\t' || c == '\r'
 }
 
+/// The suffix after the spaces at the front of this one.
+#[inline(always)]
+fn after_gap(suffix: Suffix<'_>) -> Suffix<'_>
+    ensures spaces { SplitsTo (chars suffix.entry.text.now) suffix.entry.at [] (chars result.text.now) result.at }
+    ensures shorter { length result.text.now ≤ length suffix.entry.text.now }
+{
+    let (rest, count) = after_run(suffix.text, Run::Space);
+    suffix.past(count, rest)
+}
+
 /// The suffix after the comment at the front of this one, from its newline on.
+#[cold]
+#[inline(never)]
 fn after_comment(suffix: Suffix<'_>) -> Option<Suffix<'_>>
     ensures some { IfSome result (λ found. SplitsTo (chars suffix.entry.text.now) suffix.entry.at [] (chars found.text.now) found.at) }
     ensures shorter { IfSome result (λ found. length found.text.now < length suffix.entry.text.now) }
@@ -30,6 +42,7 @@ fn after_comment(suffix: Suffix<'_>) -> Option<Suffix<'_>>
 }
 
 /// The suffix after the character of white space or the comment at the front of this one.
+#[inline(always)]
 fn after_space(suffix: Suffix<'_>) -> Option<Suffix<'_>>
     ensures some { IfSome result (λ found. SplitsTo (chars suffix.entry.text.now) suffix.entry.at [] (chars found.text.now) found.at) }
     ensures shorter { IfSome result (λ found. length found.text.now < length suffix.entry.text.now) }
@@ -50,15 +63,16 @@ fn after_space(suffix: Suffix<'_>) -> Option<Suffix<'_>>
 }
 
 /// The suffix after all white space and comments at the front of this one.
+#[inline(always)]
 pub fn after_spaces(suffix: Suffix<'_>) -> Suffix<'_>
     ensures spaces { SplitsTo (chars suffix.entry.text.now) suffix.entry.at [] (chars result.text.now) result.at }
     ensures shorter { length result.text.now ≤ length suffix.entry.text.now }
     ensures no_blank { (c : ℕ) → Lacks (chars result.text.now) (Blank c) }
     ensures no_comment { (cs : List ℕ) → Lacks (chars result.text.now) (Comment cs) }
 {
-    let mut rest = suffix;
+    let mut rest = after_gap(suffix);
     while let Some(following) = after_space(rest) {
-        rest = following;
+        rest = after_gap(following);
     }
     rest
 }
