@@ -1,12 +1,13 @@
 //! The first character of a text, fast if it is ASCII.
 
-ghost use Rattle.std.specs.Prelude.{◌≡◌, [], IfSome};
+ghost use Rattle.std.specs.Prelude.{◌≡◌, ◌≢◌, ℕ, List, [], ◌∷◌, IfSome};
 ghost use Rattle.std.specs.Option.{IfNone};
 ghost use Rattle.std.specs.Str.{chars};
 ghost use Rattle.tw_text.specs.Cuts.{Begins};
 
 use tw_text::first_char;
 
+/// The first character of a text, and what follows it; `None` of the empty text.
 #[cold]
 #[inline(never)]
 fn wide_char(text: &str) -> Option<(char, &str)>
@@ -30,4 +31,16 @@ pub fn leading_char(text: &str) -> Option<(char, &str)>
         return Some((bytes[0] as char, &text[1..]));
     }
     wide_char(text)
+}
+
+/// What follows this character at the front of a text. `None` if the text does not begin with it.
+#[inline(always)]
+pub fn after_char(text: &str, c: char) -> Option<&str>
+    ensures some { IfSome result (λ rest. Begins text.now c rest.now) }
+    ensures none { IfNone result ((mid : List ℕ) → chars text.now ≢ c ∷ mid) }
+{
+    match leading_char(text) {
+        Some((first, rest)) if first == c => Some(rest),
+        _ => None,
+    }
 }

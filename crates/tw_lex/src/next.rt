@@ -75,6 +75,7 @@ fn scanned<'t>(text: &'t str, first: char, following: &'t str) -> Option<Scanned
 }
 
 /// What stands next in a text, after white space and comments.
+#[inline(always)]
 pub fn next_token(suffix: Suffix<'_>) -> Next<'_>
     ensures { IsNext suffix.entry.text.now suffix.entry.at result }
 {

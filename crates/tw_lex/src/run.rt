@@ -71,14 +71,11 @@ pub fn after_run(text: &str, run: Run) -> (&str, usize)
 {
     let bytes = text.as_bytes();
     let mut count = 0;
-    while count < bytes.len() {
-        if bytes[count] >= 128 {
-            return after_more(text, count, run);
-        }
-        if !goes_on(run, bytes[count] as char) {
-            break;
-        }
+    while count < bytes.len() && bytes[count] < 128 && goes_on(run, bytes[count] as char) {
         count += 1;
+    }
+    if count < bytes.len() && bytes[count] >= 128 {
+        return after_more(text, count, run);
     }
     (&text[count..], count)
 }

@@ -186,7 +186,7 @@ impl Symbol {
     /// The symbol that is this character, if no other symbol begins with it.
     #[tactic(auto, unfolding(crate::specs::Symbols::symbols_from))]
     #[inline(always)]
-    pub fn alone(first: char) -> Option<Symbol>
+    pub fn single(first: char) -> Option<Symbol>
         ensures only { IfSome result (λ symbol. symbols_from first ≡ symbol ∷ []) }
         ensures text { IfSome result (λ symbol. symbol_text symbol ≡ first ∷ []) }
     {

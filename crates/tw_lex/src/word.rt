@@ -25,6 +25,7 @@ fn symbol_with(text: &str, list: &[Symbol]) -> Option<Symbol>
 }
 
 /// What letters that begin with a character are: a keyword or a name.
+#[inline(always)]
 fn kind_of(text: &str, first: char) -> TokenKind
     requires { (cs : List ℕ) × (chars text.now ≡ first ∷ cs) }
     ensures { result ≡ word_kind (symbol_of (chars text.now)) }
@@ -36,6 +37,7 @@ fn kind_of(text: &str, first: char) -> TokenKind
 }
 
 /// The name or keyword at the front of a text, from its first character and what follows that.
+#[inline(always)]
 pub fn word<'t>(text: &'t str, first: char, following: &'t str) -> Scanned<'t>
     requires begins { Begins text.now first following.now }
     requires starts { starts_name first ≡ true }

@@ -1,11 +1,7 @@
 use Rattle.std.proofs.Common.{rules}
 use Rattle.std.specs.Str.{chars}
-use Rattle.tw_lex.proofs.Pieces.{found_alone, found_operator, no_operator}
+use Rattle.tw_lex.proofs.Pieces.{found_operator, no_operator}
 use Rattle.tw_lex.proofs.operator.operator.Goals as goal
-
-pub returns-in-Some-clause-some : goal.returns-in-Some-clause-some
-returns-in-Some-clause-some c =
-    found_alone c.args.first c.args.text.now c.args.following.now _ c.requires.begins c.requires.starts c.in-Some.ensures.only c.in-Some.ensures.text c.utf8.text c.utf8.following
 
 pub returns-in_err-symbol-clause-none : goal.returns-in_err-symbol-clause-none
 returns-in_err-symbol-clause-none c =
