@@ -21,12 +21,25 @@ pub enum Run {
     Line,
 }
 
+/// Whether a name may go on with an ASCII character.
+const NAME_CHARS: [bool; 128] = [
+    false, false, false, false, false, false, false, false, false, false, false, false, false,
+    false, false, false, false, false, false, false, false, false, false, false, false, false,
+    false, false, false, false, false, false, false, false, false, false, false, false, false,
+    false, false, false, false, false, false, false, false, false, true, true, true, true, true,
+    true, true, true, true, true, false, false, false, false, false, false, false, true, true,
+    true, true, true, true, true, true, true, true, true, true, true, true, true, true, true, true,
+    true, true, true, true, true, true, true, true, false, false, false, false, true, false, true,
+    true, true, true, true, true, true, true, true, true, true, true, true, true, true, true, true,
+    true, true, true, true, true, true, true, true, true, false, false, false, false, false,
+];
+
 /// Whether a name may go on with a character.
 fn is_name_char(c: char) -> bool
     ensures { result ≡ is_xid_continue c }
 {
     if c < '\u{80}' {
-        c.is_ascii_alphabetic() || c.is_ascii_digit() || c == '_'
+        NAME_CHARS[c as usize]
     } else {
         is_xid_continue(c)
     }
