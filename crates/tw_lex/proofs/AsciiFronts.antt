@@ -1,9 +1,9 @@
 -- Texts that begin with an ASCII character, or have one at a place.
 use Rattle.std.proofs.Common.{◌≡◌, ◌∙◌, ap, sym, ℕ, ◌<◌, ◌≤◌, ◌==◌, ◌+◌, Bool, true, false, List, [], ◌∷◌, ◌++◌, length, get_or, drop, arith}
-use Rattle.std.specs.Str.{chars, IsUtf8, IsCharBoundary}
+use Rattle.std.specs.Str.{chars, IsUtf8, IsCharBoundary, encode_utf8_all}
 use Rattle.std.proofs.lemmas.Bool.Decides.{Decides-eqb}
 use Rattle.std.proofs.lemmas.List.{drop_more}
-use Rattle.std.proofs.lemmas.Str.{chars-nil, encode_ascii, IsUtf8-drop}
+use Rattle.std.proofs.lemmas.Str.{chars-nil, encode_ascii, encodes-chars, IsUtf8-drop}
 use Rattle.std.proofs.Math.ListN.{drop_of_length-le}
 use Rattle.tw_text.specs.Cuts.{Begins}
 use Rattle.tw_text.proofs.Cuts.{begins}
@@ -17,6 +17,10 @@ nothing (b ∷ text) none = let e = (Decides-eqb (length (b ∷ text)) 0).0 none
 pub something : (text : List ℕ) → (length text == 0) ≡ false → 0 < length text
 something [] none = absurd (cc)
 something (b ∷ text) none = omega arith
+
+pub not_nothing : (text : List ℕ) → IsUtf8 text → 0 < length text → chars text ≡ [] → ⊥
+not_nothing text utf8 some none =
+    let empty : text ≡ [] = sym (encodes-chars text utf8) ∙ ap encode_utf8_all none in omega (arith, some, ap length empty)
 
 pub ascii_begins : (text rest : List ℕ) (c : ℕ) → IsUtf8 text → 0 < length text → c ≡ get_or text 0 0 → c < 128 → rest ≡ drop 1 text → Begins text c rest
 ascii_begins [] rest c utf8 some is small after = absurd (omega arith)

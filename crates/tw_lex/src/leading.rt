@@ -1,20 +1,24 @@
 //! The first character of a text, fast if it is ASCII.
 
-ghost use Rattle.std.specs.Prelude.{◌≡◌, ◌≢◌, ℕ, List, [], ◌∷◌, IfSome};
+ghost use Rattle.std.specs.Prelude.{◌≡◌, ◌≢◌, ◌<◌, ℕ, List, [], ◌∷◌, length, IfSome};
 ghost use Rattle.std.specs.Option.{IfNone};
 ghost use Rattle.std.specs.Str.{chars};
 ghost use Rattle.tw_text.specs.Cuts.{Begins};
 
 use tw_text::first_char;
 
-/// The first character of a text, and what follows it; `None` of the empty text.
+/// What follows the first character of a text. `first` becomes this character: the result of a rare call stays in registers.
 #[cold]
 #[inline(never)]
-fn wide_char(text: &str) -> Option<(char, &str)>
-    ensures some { IfSome result (λ found. Begins text.now found.0 found.1.now) }
-    ensures none { IfNone result (chars text.now ≡ []) }
+fn wide_char<'t>(text: &'t str, first: &mut char) -> &'t str
+    requires { 0 < length text.now }
+    ensures { Begins text.now first.new result.now }
 {
-    first_char(text)
+    let Some((c, rest)) = first_char(text) else {
+        unreachable!()
+    };
+    *first = c;
+    rest
 }
 
 /// The first character of a text, and what follows it; `None` of the empty text.
@@ -30,7 +34,9 @@ pub fn leading_char(text: &str) -> Option<(char, &str)>
     if bytes[0] < 128 {
         return Some((bytes[0] as char, &text[1..]));
     }
-    wide_char(text)
+    let mut first = ' ';
+    let rest = wide_char(text, &mut first);
+    Some((first, rest))
 }
 
 /// What follows this character at the front of a text. `None` if the text does not begin with it.

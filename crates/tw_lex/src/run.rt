@@ -57,24 +57,27 @@ fn goes_on(run: Run, c: char) -> bool
     }
 }
 
-/// What follows the longest run at the front of a text whose first characters, so many, belong to it.
+/// What follows the longest run at the front of a text whose first characters, so many, belong to it. `total` becomes the number of
+/// the run's characters: the result of a rare call stays in registers.
 #[cold]
 #[inline(never)]
-fn after_more(text: &str, passed: usize, run: Run) -> (&str, usize)
+fn after_more<'t>(text: &'t str, passed: usize, run: Run, total: &mut usize) -> &'t str
     requires suffix { IsCharBoundary text.now passed }
     requires runs { Runs (goes_on run) text.now (drop passed text.now) passed }
-    ensures { RunsTo (goes_on run) text.now result.0.now result.1 }
+    ensures { RunsTo (goes_on run) text.now result.now total.new }
 {
     let mut rest = &text[passed..];
     let mut count = passed;
     while let Some((c, following)) = leading_char(rest) {
         if !goes_on(run, c) {
-            return (rest, count);
+            *total = count;
+            return rest;
         }
         rest = following;
         count += 1;
     }
-    (rest, count)
+    *total = count;
+    rest
 }
 
 /// What follows the longest run at the front of a text, and the number of the run's characters.
@@ -88,7 +91,9 @@ pub fn after_run(text: &str, run: Run) -> (&str, usize)
         count += 1;
     }
     if count < bytes.len() && bytes[count] >= 128 {
-        return after_more(text, count, run);
+        let mut total = count;
+        let rest = after_more(text, count, run, &mut total);
+        return (rest, total);
     }
     (&text[count..], count)
 }
