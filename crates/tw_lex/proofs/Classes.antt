@@ -1,7 +1,9 @@
 -- The first character of a piece tells its sort.
-use Rattle.std.proofs.Common.{◌≡◌, ◌≢◌, ◌∙◌, sym, ℕ, ◌<◌, ◌≤◌, ◌==◌, Bool, true, false, ◌||◌, if◌then◌else◌, List, [], ◌∷◌, length, decimal, refl, ap, arith}
+use Rattle.std.proofs.Common.{◌≡◌, ◌≢◌, ◌∙◌, sym, subst, ℕ, ◌<◌, ◌≤◌, ◌==◌, Bool, true, false, ◌||◌, ◌&&◌, ◌+◌, zero, suc, get_or, if◌then◌else◌, List, [], ◌∷◌, length, decimal, refl, ap, arith}
 use Rattle.std.proofs.lemmas.Bool.{and_parts}
 use Rattle.std.specs.Char.{is_ascii_digit, is_ascii_alphabetic}
+use Rattle.std.specs.Int.{is_in_range}
+use Rattle.std.specs.Bool.{beq}
 use Rattle.std.specs.Str.{all_ascii_digits}
 use Rattle.std.proofs.lemmas.Bool.Decides.{Decides-eqb, nat_tests}
 use Rattle.std.proofs.lemmas.Str.Parse.{numerals_by_value, tells_all_ascii_digits}
@@ -66,6 +68,48 @@ other_class false false k is e = omega arith
 
 pub no_class_digit : (c : ℕ) → starts_name c ≡ false → is_ascii_digit c ≡ false → class c ≡ 3 → ⊥
 no_class_digit c letter digit is = other_class (is_blank c) (c == 47) (class c) (class_by_tests c (is_blank c) (c == 47) false false refl refl letter digit) is
+
+-- the ASCII characters that continue a name
+any_order : (d u l e : Bool) → (((d || u) || l) || e) ≡ ((u || l) || (d || e))
+any_order true true l e = refl
+any_order true false true e = refl
+any_order true false false e = refl
+any_order false true l e = refl
+any_order false false true e = refl
+any_order false false false e = refl
+
+pub ascii_continues : (c : ℕ) → c < 128 → is_xid_continue c ≡ (is_ascii_alphabetic c || (is_ascii_digit c || (c == 95)))
+ascii_continues c small = is_xid_continue-ascii c small ∙ any_order (is_in_range 48 57 c) (is_in_range 65 90 c) (is_in_range 97 122 c) (c == 95)
+
+-- a table of the ASCII characters that continue a name
+same_bool : (a b : Bool) → beq a b ≡ true → a ≡ b
+same_bool true true e = refl
+same_bool false false e = refl
+same_bool true false e = absurd (cc)
+same_bool false true e = absurd (cc)
+
+abbrev pub tells : List Bool → ℕ → Bool
+tells [] c = true
+tells (told ∷ table) c = beq told (is_ascii_alphabetic c || (is_ascii_digit c || (c == 95))) && tells table (c + 1)
+
+told_at : (table : List Bool) (from i : ℕ) → tells table from ≡ true → i < length table → from + i < 128 → get_or table i false ≡ is_xid_continue (from + i)
+told_at [] from i all inside small = absurd (omega arith)
+told_at (told ∷ table) from zero all inside small =
+    let parts = and_parts (beq told (is_ascii_alphabetic from || (is_ascii_digit from || (from == 95)))) (tells table (from + 1)) all in
+    let at : from + 0 ≡ from = omega arith in
+    rw at (same_bool _ _ parts.0 ∙ sym (ascii_continues from (omega (arith, small))))
+told_at (told ∷ table) from (suc i) all inside small =
+    let parts = and_parts (beq told (is_ascii_alphabetic from || (is_ascii_digit from || (from == 95)))) (tells table (from + 1)) all in
+    let at : from + suc i ≡ from + 1 + i = omega arith in
+    rw at (told_at table (from + 1) i parts.1 (omega (arith, inside)) (omega (arith, small)))
+
+pub told : (table : List Bool) (c : ℕ) → tells table 0 ≡ true → length table ≡ 128 → c < 128 → get_or table c false ≡ is_xid_continue c
+told table c all long small =
+    let sum : 0 + c ≡ c = omega arith in
+    subst (λ (n : ℕ). get_or table c false ≡ is_xid_continue n) sum (told_at table 0 c all (omega (arith, long, small)) (omega (arith, small)))
+
+pub ascii_starts : (c : ℕ) → c < 128 → starts_name c ≡ (is_ascii_alphabetic c || (c == 95))
+ascii_starts c small = rw (is_xid_start-ascii c small) refl
 
 -- what goes on with no letter goes on with no digit
 digit_continues : (c : ℕ) → is_xid_continue c ≡ false → is_ascii_digit c ≡ false

@@ -1,9 +1,13 @@
 -- Pieces after the pieces of a text.
-use Rattle.std.proofs.Common.{◌≡◌, ◌≢◌, ◌∙◌, ap, sym, subst, ℕ, ◌+◌, ◌<◌, true, List, [], ◌∷◌, ◌++◌, append_assoc, length, codes, Option, refl, arith}
+use Rattle.std.proofs.Common.{◌≡◌, ◌≢◌, ◌∙◌, ap, sym, subst, ℕ, ◌+◌, ◌-◌, ◌<◌, ◌==◌, true, take, List, [], ◌∷◌, ◌++◌, append_assoc, length, codes, Option, refl, arith}
 use mathlib.Core.List.{append-nil}
 use Rattle.std.specs.List.{list_all, AllByRecursion}
 use Rattle.std.specs.Str.{chars, IsUtf8}
+use Rattle.std.proofs.lemmas.Bool.{and_parts}
+use Rattle.std.proofs.lemmas.Bool.Decides.{Decides-eqb}
 use Rattle.std.proofs.lemmas.List.{append_cancel_right}
+use Rattle.std.proofs.lemmas.Str.{IsUtf8-take}
+use Rattle.tw_text.proofs.Cuts.{boundary, spelled_apart}
 use Rattle.tw_text.specs.declared.place.Pos.{Pos}
 use Rattle.tw_text.specs.Places.{after_chars}
 use Rattle.tw_text.specs.Cuts.{Begins, Follows}
@@ -50,6 +54,22 @@ newline text rest c at b is = one (Blank c) (chars text) (chars rest) at _ b.spe
 pub blank : (text rest : List ℕ) (c : ℕ) (at : Pos) → Begins text c rest → is_blank c ≡ true → c ≢ 10 → SplitsTo (chars text) at [] (chars rest) (record { line = at.line; col = at.col + 1 })
 blank text rest c at b is other = one (Blank c) (chars text) (chars rest) at _ b.spelled is (rw (apart c 10 other) refl)
 
+-- spaces
+all_spaces : (run rest : List ℕ) (at : Pos) → list_all (λ c. c == 32) run ≡ true → SplitsTo (run ++ rest) at [] rest (record { line = at.line; col = at.col + length run })
+all_spaces [] rest at all = let sum : at.col ≡ at.col + 0 = omega arith in subst (λ (n : ℕ). SplitsTo rest at [] rest (record { line = at.line; col = n })) sum (none rest at)
+all_spaces (c ∷ run) rest at all =
+    let parts = and_parts (c == 32) (list_all (λ d. d == 32) run) all in
+    let is : c ≡ 32 = (Decides-eqb c 32).0 parts.0 in
+    let next : Pos = record { line = at.line; col = at.col + 1 } in
+    let more = all_spaces run rest next parts.1 in
+    let sum : at.col + 1 + length run ≡ at.col + length (c ∷ run) = omega arith in
+    subst (λ (n : ℕ). SplitsTo (c ∷ (run ++ rest)) at [] rest (record { line = at.line; col = n })) sum
+    (join (one (Blank c) (c ∷ (run ++ rest)) (run ++ rest) at next refl (rw is refl) (rw is refl)) more)
+
+pub spaces : (text rest : List ℕ) (count : ℕ) (at : Pos) → RunsTo (λ c. c == 32) text rest count → SplitsTo (chars text) at [] (chars rest) (record { line = at.line; col = at.col + count })
+spaces text rest count at r =
+    rw (r.runs.parts, r.runs.counted) (all_spaces r.runs.run (chars rest) at r.runs.all)
+
 -- the run of a line that begins with these characters
 slashes : (run more rest : List ℕ) → Ends is_in_line rest → 47 ∷ 47 ∷ more ≡ run ++ rest → (cs : List ℕ) × (run ≡ 47 ∷ 47 ∷ cs)
 slashes [] more rest ends e = let wrong = rw (← e) at ends in absurd (cc)
@@ -78,6 +98,14 @@ token text taken rest count kind at f cut utf8 =
     let is = f.is taken utf8 same in
     let place : record { line = at.line; col = at.col + count } ≡ after_chars at (piece_text f.piece) = ap (λ (n : ℕ). record { line = at.line; col = at.col + n }) f.counted ∙ sym (after_line at (piece_text f.piece) f.in_line) in
     (subst (λ (toks : List Lexed). SplitsTo (chars text) at toks (chars rest) (record { line = at.line; col = at.col + count })) (ap (λ (o : Option Lexeme). token_of o at) is.0) (one f.piece (chars text) (chars rest) at _ f.parts f.stands place), is.1)
+
+-- a token of which only its end is told
+pub some_token : (text rest : List ℕ) (count : ℕ) (kind : TokenKind) (at : Pos) → Found text rest count kind → IsUtf8 text → IsUtf8 rest
+    → (t : Lexed) × SplitsTo (chars text) at (t ∷ []) (chars rest) (record { line = at.line; col = at.col + count })
+some_token text rest count kind at f utf8 utf8' =
+    let taken = take (length text - length rest) text in
+    let cut = spelled_apart text rest taken f.behind utf8 utf8' refl in
+    (record { lexeme = lexeme_of kind taken; at = at }, (token text taken rest count kind at f cut (IsUtf8-take text (length text - length rest) utf8 (boundary text rest f.behind utf8'))).0)
 
 -- it has a character
 pub token-shorter : (text rest : List ℕ) (count : ℕ) (kind : TokenKind) → Found text rest count kind → length rest < length text

@@ -1,5 +1,5 @@
 -- What the scanning functions find is a piece, and where they find none no piece of its sort stands.
-use Rattle.std.proofs.Common.{◌≡◌, ◌∙◌, ap, sym, ℕ, ◌+◌, ◌<◌, ◌^◌, Bool, true, false, List, [], ◌∷◌, ◌++◌, append_assoc, length, length-append, codes, decimal, Option, Some, None, refl, arith}
+use Rattle.std.proofs.Common.{◌≡◌, ◌≢◌, ◌∙◌, ap, sym, subst, ℕ, ◌+◌, ◌<◌, ◌^◌, Bool, true, false, List, [], ◌∷◌, ◌++◌, append_assoc, length, length-append, codes, decimal, Option, Some, None, refl, arith}
 use Rattle.std.specs.Option.{IfNone}
 use Rattle.std.specs.Char.{is_ascii_digit}
 use Rattle.std.specs.Str.{chars, IsUtf8, encode_utf8_all, all_ascii_digits}
@@ -8,17 +8,18 @@ use Rattle.std.proofs.lemmas.Str.{chars-IsAscii, encodes-chars, encodes-IsAscii,
 use Rattle.std.proofs.lemmas.Str.Parse.{numerals_by_value, tells_all_ascii_digits}
 use Rattle.std.proofs.lemmas.Fmt.{digits_decimal, IsAscii-decimal}
 use Rattle.unicode_ident.specs.Ident.{is_xid_continue}
-use Rattle.tw_text.specs.Cuts.{Begins, Follows}
+use Rattle.tw_text.specs.Cuts.{Begins, EndsWith, Follows}
 use Rattle.tw_text.proofs.Cuts.{ends_with_both}
 use Rattle.tw_lex.specs.declared.token.TokenKind.TheVariants as kind
 use Rattle.tw_lex.specs.declared.symbol.Symbol.{Symbol}
-use Rattle.tw_lex.specs.Symbols.{symbol_text, symbol_of, all_symbols, is_keyword, starts_with, symbols_from, find_front}
+use Rattle.tw_lex.specs.declared.symbol.Symbol.TheVariants as symbols
+use Rattle.tw_lex.specs.Symbols.{symbol_text, symbol_of, all_symbols, is_keyword, starts_with, symbols_from, find_front, begins}
 use Rattle.tw_lex.specs.Tokens.{Piece, Blank, Comment, Letters, Digits, Operator, piece_text, word_lexeme, is_blank, is_in_line, starts_name, Stands, Ends}
 use Rattle.tw_lex.specs.Scans.{Found, Lacks, RunsTo, lexeme_of, word_kind, IsKind}
 use Rattle.tw_lex.proofs.Runs.{same_run}
 use Rattle.tw_lex.proofs.Lines.{in_line, name-in_line}
 use Rattle.tw_lex.proofs.Classes.{heads, ends-digits, class, class-digit, no_class_digit, sort}
-use Rattle.tw_lex.proofs.SymbolTexts.{chars-symbol, encodes-symbol, symbol-in_line, keyword-starts, find_symbol-text, find_front-longest, find_front-none}
+use Rattle.tw_lex.proofs.SymbolTexts.{chars-symbol, encodes-symbol, symbol-in_line, keyword-starts, find_symbol-text, find_front-longest, find_front-none, begins-append, begins-not}
 
 pub chars-slashes : chars (codes "//") ≡ codes "//"
 unfolding chars
@@ -36,21 +37,24 @@ word-is taken c cs (Some symbol) is starts utf8 spelled =
     let text : symbol_text symbol ≡ c ∷ cs = find_symbol-text all_symbols (c ∷ cs) symbol (sym is) in
     (refl, (sym (encodes-chars taken utf8) ∙ ap encode_utf8_all (spelled ∙ sym text) ∙ encodes-symbol symbol, sym (keyword-starts symbol) ∙ ap (starts_with starts_name) text ∙ starts))
 
+pub found_letters : (text following rest : List ℕ) (c count : ℕ) → Begins text c following → starts_name c ≡ true → (r : RunsTo is_xid_continue following rest count) → Found text rest (count + 1) (word_kind (symbol_of (c ∷ r.runs.run)))
+found_letters text following rest c count b starts r = record {
+  piece = Letters c r.runs.run;
+  parts = b.spelled ∙ ap (λ x. c ∷ x) r.runs.parts;
+  stands = (starts, r.runs.all, r.ends);
+  is = λ taken utf8 spelled. word-is taken c r.runs.run (symbol_of (c ∷ r.runs.run)) refl starts utf8 spelled;
+  in_line = name-in_line c r.runs.run starts r.runs.all;
+  counted = omega (arith, r.runs.counted);
+  short = omega (arith, r.runs.short, b.shorter);
+  behind = ends_with_both text following rest b.behind r.runs.behind;
+}
+
 pub found_word : (text following rest word : List ℕ) (c count : ℕ) → Begins text c following → starts_name c ≡ true → RunsTo is_xid_continue following rest count
     → chars text ≡ chars word ++ chars rest → Found text rest (count + 1) (word_kind (symbol_of (chars word)))
 found_word text following rest word c count b starts r cut =
     let parts : chars text ≡ (c ∷ r.runs.run) ++ chars rest = b.spelled ∙ ap (λ x. c ∷ x) r.runs.parts in
     let same : chars word ≡ c ∷ r.runs.run = append_cancel_right (chars word) (c ∷ r.runs.run) (chars rest) (sym cut ∙ parts) in
-    rw same (record {
-      piece = Letters c r.runs.run;
-      parts = parts;
-      stands = (starts, r.runs.all, r.ends);
-      is = λ taken utf8 spelled. word-is taken c r.runs.run (symbol_of (c ∷ r.runs.run)) refl starts utf8 spelled;
-      in_line = name-in_line c r.runs.run starts r.runs.all;
-      counted = omega (arith, r.runs.counted);
-      short = omega (arith, r.runs.short, b.shorter);
-      behind = ends_with_both text following rest b.behind r.runs.behind;
-    })
+    rw same (found_letters text following rest c count b starts r)
 
 all_digits : (value : ℕ) → value < 2 ^ 64 → all_ascii_digits (decimal value) ≡ true
 all_digits value small = digits_decimal (numerals_by_value _ tells_all_ascii_digits) value small
@@ -108,6 +112,64 @@ found_operator first more text rest symbol begins none found f utf8 utf8' =
       short = omega (arith, ap length bytes, length-append (symbol_text symbol) rest);
       behind = f.behind;
     }
+
+-- the first symbol of a list if the text begins with it, and the other ones if it does not
+front_yes : (symbol : Symbol) (list : List Symbol) (cs mid : List ℕ) → cs ≡ symbol_text symbol ++ mid → find_front (symbol ∷ list) cs ≡ Some symbol
+front_yes symbol list cs mid e = let yes : begins (symbol_text symbol) cs ≡ true = rw e (begins-append (symbol_text symbol) mid) in rw yes refl
+
+front_no : (symbol : Symbol) (list : List Symbol) (cs : List ℕ) → ((mid : List ℕ) → cs ≡ symbol_text symbol ++ mid → ⊥) → find_front (symbol ∷ list) cs ≡ find_front list cs
+front_no symbol list cs none = let no : begins (symbol_text symbol) cs ≡ false = begins-not (symbol_text symbol) cs none in rw no refl
+
+found_front : (first : ℕ) (text following rest : List ℕ) (symbol : Symbol) (list : List Symbol) → Begins text first following → starts_name first ≡ false
+    → find_front (symbols_from first) (chars text) ≡ find_front (symbol ∷ list) (chars text) → chars text ≡ symbol_text symbol ++ chars rest → EndsWith text rest → IsUtf8 text → IsUtf8 rest
+    → Found text rest (length (symbol_text symbol)) (kind.Mark symbol)
+found_front first text following rest symbol list b none front spelled behind utf8 utf8' =
+    found_operator first (chars following) text rest symbol b.spelled none (front ∙ front_yes symbol list (chars text) (chars rest) spelled)
+    (record { spelled = spelled ∙ ap (λ x. x ++ chars rest) (sym (chars-symbol symbol)); behind = behind }) utf8 utf8'
+
+-- a symbol of one character with which no other begins
+pub found_single : (first : ℕ) (text rest : List ℕ) (symbol : Symbol) → Begins text first rest → starts_name first ≡ false → symbols_from first ≡ symbol ∷ [] → symbol_text symbol ≡ first ∷ [] → IsUtf8 text → IsUtf8 rest
+    → Found text rest 1 (kind.Mark symbol)
+found_single first text rest symbol b none only is utf8 utf8' =
+    subst (λ (n : ℕ). Found text rest n (kind.Mark symbol)) (ap length is)
+    (found_front first text rest rest symbol [] b none (ap (λ list. find_front list (chars text)) only) (b.spelled ∙ ap (λ x. x ++ chars rest) (sym is)) b.behind utf8 utf8')
+
+-- the longer and the shorter one of two symbols
+pub found_long : (first second : ℕ) (text following rest : List ℕ) (long short : Symbol) → Begins text first following → Begins following second rest → starts_name first ≡ false → symbols_from first ≡ long ∷ short ∷ []
+    → symbol_text long ≡ first ∷ second ∷ [] → IsUtf8 text → IsUtf8 rest → Found text rest 2 (kind.Mark long)
+found_long first second text following rest long short b b' none only is utf8 utf8' =
+    subst (λ (n : ℕ). Found text rest n (kind.Mark long)) (ap length is)
+    (found_front first text following rest long (short ∷ []) b none (ap (λ list. find_front list (chars text)) only)
+    (b.spelled ∙ ap (λ x. first ∷ x) b'.spelled ∙ ap (λ x. x ++ chars rest) (sym is)) (ends_with_both text following rest b.behind b'.behind) utf8 utf8')
+
+pub found_short : (first second : ℕ) (text following : List ℕ) (long short : Symbol) → Begins text first following → ((mid : List ℕ) → chars following ≢ second ∷ mid) → starts_name first ≡ false
+    → symbols_from first ≡ long ∷ short ∷ [] → symbol_text long ≡ first ∷ second ∷ [] → symbol_text short ≡ first ∷ [] → IsUtf8 text → IsUtf8 following → Found text following 1 (kind.Mark short)
+found_short first second text following long short b other none only is_long is utf8 utf8' =
+    let no_long = front_no long (short ∷ []) (chars text) (λ mid e. let both : first ∷ chars following ≡ first ∷ (second ∷ mid) = sym b.spelled ∙ e ∙ ap (λ x. x ++ mid) is_long in let tails : chars following ≡ second ∷ mid = cc in other mid tails) in
+    subst (λ (n : ℕ). Found text following n (kind.Mark short)) (ap length is)
+    (found_front first text following following short [] b none (ap (λ list. find_front list (chars text)) only ∙ no_long) (b.spelled ∙ ap (λ x. x ++ chars following) (sym is)) b.behind utf8 utf8')
+
+-- the symbols that begin with `<`
+less_list : symbols_from 60 ≡ symbols.Swap ∷ symbols.Assign ∷ symbols.Less ∷ []
+unfolding symbols_from
+less_list = refl
+
+pub found_swap : (text following rest end : List ℕ) → Begins text 60 following → Begins following 45 rest → Begins rest 62 end → starts_name 60 ≡ false → IsUtf8 text → IsUtf8 end → Found text end 3 (kind.Mark symbols.Swap)
+found_swap text following rest end b b' b'' none utf8 utf8' =
+    found_front 60 text following end symbols.Swap (symbols.Assign ∷ symbols.Less ∷ []) b none (ap (λ list. find_front list (chars text)) less_list) (b.spelled ∙ ap (λ x. 60 ∷ x) (b'.spelled ∙ ap (λ x. 45 ∷ x) b''.spelled))
+    (ends_with_both text following end b.behind (ends_with_both following rest end b'.behind b''.behind)) utf8 utf8'
+
+pub found_assign : (text following rest : List ℕ) → Begins text 60 following → Begins following 45 rest → ((mid : List ℕ) → chars rest ≢ 62 ∷ mid) → starts_name 60 ≡ false → IsUtf8 text → IsUtf8 rest → Found text rest 2 (kind.Mark symbols.Assign)
+found_assign text following rest b b' other none utf8 utf8' =
+    let spelled : chars text ≡ 60 ∷ (45 ∷ chars rest) = b.spelled ∙ ap (λ x. 60 ∷ x) b'.spelled in
+    let no_swap = front_no symbols.Swap (symbols.Assign ∷ symbols.Less ∷ []) (chars text) (λ mid e. let both : 60 ∷ (45 ∷ chars rest) ≡ 60 ∷ (45 ∷ (62 ∷ mid)) = sym spelled ∙ e in let tails : chars rest ≡ 62 ∷ mid = cc in other mid tails) in
+    found_front 60 text following rest symbols.Assign (symbols.Less ∷ []) b none (ap (λ list. find_front list (chars text)) less_list ∙ no_swap) spelled (ends_with_both text following rest b.behind b'.behind) utf8 utf8'
+
+pub found_less : (text following : List ℕ) → Begins text 60 following → ((mid : List ℕ) → chars following ≢ 45 ∷ mid) → starts_name 60 ≡ false → IsUtf8 text → IsUtf8 following → Found text following 1 (kind.Mark symbols.Less)
+found_less text following b other none utf8 utf8' =
+    let no_assign = front_no symbols.Assign (symbols.Less ∷ []) (chars text) (λ mid e. let both : 60 ∷ chars following ≡ 60 ∷ (45 ∷ mid) = sym b.spelled ∙ e in let tails : chars following ≡ 45 ∷ mid = cc in other mid tails) in
+    let no_swap = front_no symbols.Swap (symbols.Assign ∷ symbols.Less ∷ []) (chars text) (λ mid e. let both : 60 ∷ chars following ≡ 60 ∷ (45 ∷ (62 ∷ mid)) = sym b.spelled ∙ e in let tails : chars following ≡ 45 ∷ (62 ∷ mid) = cc in other (62 ∷ mid) tails) in
+    found_front 60 text following following symbols.Less [] b none (ap (λ list. find_front list (chars text)) less_list ∙ no_swap ∙ no_assign) b.spelled b.behind utf8 utf8'
 
 pub no_operator : (first : ℕ) (more text : List ℕ) → chars text ≡ first ∷ more → find_front (symbols_from first) (chars text) ≡ None → (symbol : Symbol) → Lacks (chars text) (Operator symbol)
 no_operator first more text begins none symbol mid parts stands =

@@ -1,5 +1,5 @@
 -- What scanning finds at the front of a text.
-use Rattle.std.specs.Prelude.{◌≡◌, ℕ, ◌+◌, ◌≤◌, Bool, true, false, List, ◌++◌, length, Option, Some, None, decimal, refl}
+use Rattle.std.specs.Prelude.{◌≡◌, ℕ, ◌+◌, ◌≤◌, ◌==◌, Bool, true, false, List, ◌++◌, length, Option, Some, None, decimal, refl}
 use Rattle.std.specs.List.{list_all}
 use Rattle.std.specs.Char.{is_ascii_digit}
 use Rattle.std.specs.Str.{chars, IsUtf8}
@@ -46,6 +46,7 @@ IsToken token = IsKind token.kind token.text.now
 
 -- whether the run goes on with this character
 abbrev pub goes_on : Run → ℕ → Bool
+goes_on run.Space c = c == 32
 goes_on run.Name c = is_xid_continue c
 goes_on run.Digits c = is_ascii_digit c
 goes_on run.Line c = is_in_line c

@@ -27,6 +27,7 @@ impl<'t> Cursor<'t> {
 
     /// So many tokens, from a place of a text on.
     #[tactic(auto, unfolding(crate::specs::Left::left_of))]
+    #[inline(always)]
     fn at(rest: Suffix<'t>, left: usize) -> Cursor<'t>
         requires { (toks : TokensFrom (chars rest.text.now) rest.at) × (left ≡ length toks.0) }
         ensures { (toks : TokensFrom (chars rest.entry.text.now) rest.entry.at) → left_of result ≡ toks.0 }
@@ -52,6 +53,7 @@ impl<'t> Cursor<'t> {
 
     /// The tokens of a text, which are so many.
     #[tactic(auto, unfolding(crate::specs::Left::left_of))]
+    #[inline(never)]
     pub fn new(text: &'t str, left: usize) -> Cursor<'t>
         requires short { length text.now < 4294967295 }
         requires counted { HasCount (chars text.now) left }
@@ -79,6 +81,7 @@ impl<'t> Cursor<'t> {
 
     /// Passes the first token, if one is left.
     #[tactic(auto, unfolding(crate::specs::Left::left_of))]
+    #[inline(never)]
     pub fn advance(&mut self)
         ensures { left_of self.new ≡ behind (left_of self.old) }
     {

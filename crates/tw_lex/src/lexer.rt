@@ -7,7 +7,7 @@ ghost use Rattle.tw_lex.specs.Tokens.{Lexed, HasTokens};
 ghost use Rattle.tw_lex.specs.Cursors.{HasCount};
 
 use crate::Token;
-use crate::next::{Next, next_token};
+use crate::next::{Next, Passed, after_token, next_token};
 use crate::suffix::Suffix;
 use std::alloc::Global;
 use tw_text::{Fault, Refusal, Rule};
@@ -44,13 +44,13 @@ pub fn count_tokens(text: &str) -> Result<usize, Fault>
     let mut count = 0;
     let mut rest = Suffix::of(text);
     loop {
-        match next_token(rest) {
-            Next::Token(_, following) => {
+        match after_token(rest) {
+            Passed::Token(following) => {
                 count += 1;
                 rest = following;
             }
-            Next::End => return Ok(count),
-            Next::Wrong(stop) => return Err(Fault::Refused(Refusal::broken(Rule::Token, stop))),
+            Passed::End => return Ok(count),
+            Passed::Wrong(stop) => return Err(Fault::Refused(Refusal::broken(Rule::Token, stop))),
         }
     }
 }

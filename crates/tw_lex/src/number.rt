@@ -27,6 +27,7 @@ fn continues_name(text: &str) -> bool
 
 /// The number at the front of a text. `None` if the text begins with no digit, and if its digits break a rule: a leading
 /// zero, a value above the greatest `u64`, or a character that continues names directly after them.
+#[inline(always)]
 pub fn number(text: &str) -> Option<Scanned<'_>>
     ensures some { IfSome result (λ found. Found text.now found.rest.now found.count found.kind) }
     ensures none { IfNone result ((value : ℕ) → Lacks (chars text.now) (Digits value)) }

@@ -1,6 +1,6 @@
 //! Keywords, operators and delimiters.
 
-ghost use Rattle.std.specs.Prelude.{◌≡◌};
+ghost use Rattle.std.specs.Prelude.{◌≡◌, ◌∷◌, [], IfSome};
 ghost use Rattle.tw_lex.specs.Symbols.{symbol_text, symbols_from};
 
 /// A keyword, an operator or a delimiter.
@@ -180,6 +180,31 @@ impl Symbol {
             'n' => &[Symbol::Null, Symbol::Not],
             'a' => &[Symbol::Alloc],
             _ => &[],
+        }
+    }
+
+    /// The symbol that is this character, if no other symbol begins with it.
+    #[tactic(auto, unfolding(crate::specs::Symbols::symbols_from))]
+    #[inline(always)]
+    pub fn single(first: char) -> Option<Symbol>
+        ensures only { IfSome result (λ symbol. symbols_from first ≡ symbol ∷ []) }
+        ensures text { IfSome result (λ symbol. symbol_text symbol ≡ first ∷ []) }
+    {
+        match first {
+            '>' => Some(Symbol::Greater),
+            '(' => Some(Symbol::OpenParen),
+            ')' => Some(Symbol::CloseParen),
+            '{' => Some(Symbol::OpenBrace),
+            '}' => Some(Symbol::CloseBrace),
+            '[' => Some(Symbol::OpenBracket),
+            ']' => Some(Symbol::CloseBracket),
+            ',' => Some(Symbol::Comma),
+            ';' => Some(Symbol::Semicolon),
+            ':' => Some(Symbol::Colon),
+            '.' => Some(Symbol::Dot),
+            '+' => Some(Symbol::Plus),
+            '*' => Some(Symbol::Star),
+            _ => None,
         }
     }
 }

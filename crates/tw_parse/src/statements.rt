@@ -26,7 +26,7 @@ pub fn stmts<'a>(
     ensures { Returns (λ x. (map stmt_tree x.now, left_of cursor.new)) result (all_at (goes_before end) (stmt_at (suc room)) (left_of cursor.old)) }
 {
     let count = cursor.left();
-    let mut stmts = Vec::new(arena);
+    let mut stmts = Vec::with_capacity(arena, 1)?;
     for _ in 0..count {
         if leads(end, cursor) {
             return Ok(into_bump_slice(stmts));

@@ -1,5 +1,5 @@
 -- Printing one text after another.
-use Rattle.std.proofs.Common.{◌∙◌, sym, subst, ℕ, List, [], ◌++◌, Option, refl}
+use Rattle.std.proofs.Common.{◌≡◌, ◌∙◌, ap, sym, subst, ℕ, List, [], ◌++◌, append_assoc, Option, refl}
 use Rattle.tw_io.specs.Devices.{Rose}
 use Rattle.tw_io.proofs.Devices.{appends_nothing, appends_both, appends_prefix_longer, appends_prefix_then}
 use Rattle.tw_print.specs.declared.progress.Progress.{Progress}
@@ -24,3 +24,10 @@ goes_then first next = record { on = on_then _ _ _ _ _ _ _ _ _ _ first.on next.o
 pub goes_none : {K : Type 0} (taken : K → Option (List ℕ)) (faults : K → ℕ) (a : K) (p : Progress) → Goes taken faults a a p p []
 goes_none taken faults a Going = record { on = record { whole = appends_nothing (taken a); steady = refl } }
 goes_none taken faults a Broken = record { on = refl }
+
+-- a line whose last part has the newline
+pub ends_two : (xs ys zs end : List ℕ) → (xs ++ (ys ++ zs)) ++ end ≡ xs ++ (ys ++ (zs ++ end))
+ends_two xs ys zs end = append_assoc xs (ys ++ zs) end ∙ ap (λ x. xs ++ x) (append_assoc ys zs end)
+
+pub ends_three : (xs ys zs us end : List ℕ) → (xs ++ (ys ++ (zs ++ us))) ++ end ≡ xs ++ (ys ++ (zs ++ (us ++ end)))
+ends_three xs ys zs us end = append_assoc xs (ys ++ (zs ++ us)) end ∙ ap (λ x. xs ++ x) (ends_two ys zs us end)

@@ -11,7 +11,7 @@ ghost use Rattle.tw_print.specs.Programs.{param_print, more_params_print, params
 ghost use Rattle.tw_print.specs.ReadBack.{ReadsBack};
 
 use crate::progress::{Progress, text};
-use crate::statements::{print_line, print_stmts};
+use crate::statements::print_stmts;
 use crate::types::print_type;
 use tw_io::{Sink, WriteFault};
 use tw_syntax::{Alias, Decl, Fun, Name, Param, Program};

@@ -2,7 +2,6 @@ use Rattle.std.proofs.Common.{◌≡◌, ◌∙◌, sym, subst, List, [], ◌∷
 use mathlib.Core.List.{append-nil}
 use Rattle.std.specs.Str.{chars}
 use Rattle.tw_text.specs.Places.{first_place}
-use Rattle.tw_lex.specs.Scans.{seen}
 use Rattle.tw_lex.specs.Tokens.{Lexed, HasTokens}
 use Rattle.tw_lex.proofs.Endings.{refused_at}
 use Rattle.tw_lex.proofs.Growing.{join, join_all, join_stop}
@@ -11,10 +10,10 @@ use Rattle.tw_lex.proofs.lexer.count_tokens.Goals as goal
 pub loop-following-preserved : goal.loop-following-preserved
 loop-following-preserved c =
     let found = c.loop-following.invariant.found in
-    let one = seen c.in-Token.field-0 ∷ [] in
+    let one = c.in-Token.ensures.0 ∷ [] in
     record {
       text = search rules;
-      found = (found.0 ++ one, join found.1 c.in-Token.ensures.0, omega (arith, found.2, length-append found.0 one));
+      found = (found.0 ++ one, join found.1 c.in-Token.ensures.1, omega (arith, found.2, length-append found.0 one));
       short = omega (arith, c.loop-following.invariant.short, c.in-Token.ensures.2);
     }
 

@@ -1,12 +1,15 @@
 use Rattle.tw_lex.proofs.Growing.{comment, comment-shorter}
-use Rattle.tw_lex.proofs.Pieces.{no_comment}
 use Rattle.tw_lex.proofs.space.after_comment.Goals as goal
 
-pub returns-in_err-text_after-clause-none : goal.returns-in_err-text_after-clause-none
-returns-in_err-text_after-clause-none c = rw c.from_residual.ensures (no_comment c.args.suffix.text.now c.in_err-text_after.ensures.none)
+pub returns-then-not-begins_comment-clause-none : goal.returns-then-not-begins_comment-clause-none
+returns-then-not-begins_comment-clause-none c = c.begins_comment.ensures.no c.if-not-begins_comment.true
 
 pub returns-clause-some : goal.returns-clause-some
-returns-clause-some c = rw (c.past.ensures.text, c.past.ensures.place) (comment c.args.suffix.text.now _ _ _ c.args.suffix.at c.in_ok-text_after.ensures.some c.after_run-count.ensures)
+returns-clause-some c =
+    let f = c.begins_comment.ensures.yes c.if-not-begins_comment.false in
+    rw (c.past.ensures.text, c.past.ensures.place) (comment c.args.suffix.text.now f.0 _ _ c.args.suffix.at f.1 c.after_line-rest.ensures)
 
 pub returns-clause-shorter : goal.returns-clause-shorter
-returns-clause-shorter c = rw c.past.ensures.text (comment-shorter c.args.suffix.text.now _ _ _ c.in_ok-text_after.ensures.some c.after_run-count.ensures)
+returns-clause-shorter c =
+    let f = c.begins_comment.ensures.yes c.if-not-begins_comment.false in
+    rw c.past.ensures.text (comment-shorter c.args.suffix.text.now f.0 _ _ f.1 c.after_line-rest.ensures)

@@ -12,7 +12,7 @@ stmts-loop-preserved t c =
 
 pub stmts-returns-in_err-stmt : goal.stmts-returns-in_err-stmt
 stmts-returns-in_err-stmt t c =
-    let p = err_from_is_err_and c.from_residual.result c.from_residual.ensures.1 in
+    let p = err_from_is_err_and c.from_residual-in_err-stmt.result c.from_residual-in_err-stmt.ensures.1 in
     rw (p.1, p.2) (fails _ c.loop.invariant c.loop-test.true (ap not (sym c.leads.ensures ∙ c.if-leads.false)) c.in_err-stmt.ensures)
 
 pub stmts-returns-then-leads : goal.stmts-returns-then-leads

@@ -12,18 +12,18 @@ pub print_else-returns-in-Some : goal.print_else-returns-in-Some
 print_else-returns-in-Some g t c = rw (else_is _ c.in-Some.other c.in-Some.is, ← c.deeper.ensures) (goes_then c.print_line-progress.ensures c.print_stmts.ensures)
 
 pub print_stmt-returns-in-Let : goal.print_stmt-returns-in-Let
-print_stmt-returns-in-Let g t c = rw (c.in-Let.is) (goes_then c.print_indent-progress.ensures (goes_then c.print_let-progress.ensures c.text.ensures))
+print_stmt-returns-in-Let g t c = rw (c.in-Let.is) (goes_then c.print_indent-progress.ensures c.print_let.ensures)
 
 pub print_stmt-returns-in-Swap : goal.print_stmt-returns-in-Swap
-print_stmt-returns-in-Swap g t c = rw (c.in-Swap.is) (goes_then c.print_indent-progress-in-Swap.ensures (goes_then c.print_swap-progress.ensures c.text-in-Swap.ensures))
+print_stmt-returns-in-Swap g t c = rw (c.in-Swap.is) (goes_then c.print_indent-progress-in-Swap.ensures c.print_swap.ensures)
 
 pub print_stmt-returns-in-MemSwap : goal.print_stmt-returns-in-MemSwap
-print_stmt-returns-in-MemSwap g t c = rw (c.in-MemSwap.is) (goes_then c.print_indent-progress-in-MemSwap.ensures (goes_then c.print_mem_swap-progress.ensures c.text-in-MemSwap.ensures))
+print_stmt-returns-in-MemSwap g t c = rw (c.in-MemSwap.is) (goes_then c.print_indent-progress-in-MemSwap.ensures c.print_mem_swap.ensures)
 
 pub print_stmt-returns-in-If : goal.print_stmt-returns-in-If
 print_stmt-returns-in-If g t c =
     rw (if_is c.args.stmt.now c.in-If.cond c.in-If.yes c.in-If.no c.in-If.is, ← c.deeper.ensures)
-    (goes_then (goes_then c.print_indent-progress-in-If.ensures (goes_then c.print_condition-progress.ensures c.text-progress.ensures)) (goes_then c.print_stmts-progress.ensures (goes_then c.print_else-progress.ensures c.print_line.ensures)))
+    (goes_then (goes_then c.print_indent-progress-in-If.ensures c.print_condition-progress.ensures) (goes_then c.print_stmts-progress.ensures (goes_then c.print_else-progress.ensures c.print_line.ensures)))
 
 pub print_stmt-returns-in-With : goal.print_stmt-returns-in-With
 print_stmt-returns-in-With g t c =
