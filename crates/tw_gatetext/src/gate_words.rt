@@ -8,21 +8,20 @@ ghost use Rattle.tw_gatetext.specs.Text.{spaced};
 ghost use Rattle.tw_gatetext.specs.LineWords.{letters, numbers_of};
 ghost use Rattle.tw_gatetext.specs.Reading.{HasNoSpace, AreLineNumbers, IsLineOf};
 
-use crate::numbers::number_at;
-use arrayvec::ArrayVec;
 use tw_gate::Gate;
 use tw_text::{CONTROLS_LIMIT, after};
 
 /// The most numbers of a line: a count of controls, the controls and a target.
-const MOST_NUMBERS: usize = CONTROLS_LIMIT as usize + 2;
+pub const MOST_NUMBERS: usize = CONTROLS_LIMIT as usize + 2;
 
-/// The numbers of a line.
-pub type Numbers = ArrayVec<u32, MOST_NUMBERS>;
+/// Room for the numbers of a line.
+pub type Numbers = [u32; MOST_NUMBERS];
 
 /// A gate line: its letters, and the bytes after the line.
 #[derive(Clone, Copy)]
 pub struct LineWords<'b> {
     pub letters: &'b [u8],
+    pub count: usize,
     pub rest: &'b [u8],
 }
 
@@ -37,46 +36,54 @@ fn word_at(bytes: &[u8]) -> Option<(&[u8], &[u8])>
 }
 
 /// The number after a space, and the bytes after it.
-fn spaced_number(bytes: &[u8]) -> Option<(u32, &[u8])>
-    ensures some { IfSome result (λ found. bytes.now ≡ codes " " ++ (decimal found.0 ++ found.1.now)) }
-    ensures only { IfSome result (λ found. (n : ℕ) (ns rest : List ℕ) → n < 2 ^ 32 → bytes.now ≡ spaced (n ∷ ns) ++ (codes "\n" ++ rest) → (n ≡ found.0) × (found.1.now ≡ spaced ns ++ (codes "\n" ++ rest))) }
-    ensures none { IfNone result ((n : ℕ) (ns rest : List ℕ) → n < 2 ^ 32 → ¬ (bytes.now ≡ spaced (n ∷ ns) ++ (codes "\n" ++ rest))) }
+fn short_number(bytes: &[u8]) -> Option<(u32, &[u8])>
 {
-    let (number, rest) = number_at(after(bytes, b" ")?)?;
-    Some((u32::try_from(number).ok()?, rest))
+    let most = bytes.len().min(10);
+    let mut value: u64 = 0;
+    let mut used = 0;
+    while used < most && bytes[used].is_ascii_digit() {
+        value = value * 10 + u64::from(bytes[used] - b'0');
+        used += 1;
+    }
+    if used == 0 || used > 1 && bytes[0] == b'0' {
+        return None;
+    }
+    Some((u32::try_from(value).ok()?, &bytes[used..]))
 }
 
-/// Reads the numbers up to the end of the line, each after a space. Returns the bytes after the line.
-/// What the buffer held is lost.
-fn spaced_numbers<'b>(bytes: &'b [u8], numbers: &mut Numbers) -> Option<&'b [u8]>
-    ensures some { IfSome result (λ rest. bytes.now ≡ spaced numbers.new.items ++ (codes "\n" ++ rest.now)) }
-    ensures few { IfSome result (λ rest. length numbers.new.items ≤ MOST_NUMBERS) }
-    ensures small { IfSome result (λ rest. AllByRecursion (λ n. n < 2 ^ 32) numbers.new.items) }
-    ensures none { IfNone result ((ns rest : List ℕ) → length ns ≤ MOST_NUMBERS → AllByRecursion (λ n. n < 2 ^ 32) ns → ¬ (bytes.now ≡ spaced ns ++ (codes "\n" ++ rest))) }
+/// The number after a space, and the bytes after it.
+fn spaced_number(bytes: &[u8]) -> Option<(u32, &[u8])>
 {
-    numbers.clear();
+    match bytes {
+        [b' ', digits @ ..] => short_number(digits),
+        _ => None,
+    }
+}
+
+/// Reads the numbers up to the end of the line, each after a space. Returns their count and the bytes after the line.
+fn spaced_numbers<'b>(bytes: &'b [u8], numbers: &mut Numbers) -> Option<(usize, &'b [u8])>
+{
+    let mut count = 0;
     let mut rest = bytes;
-    while !numbers.is_full() {
-        if let Some(behind) = after(rest, b"\n") {
-            return Some(behind);
+    while count < MOST_NUMBERS {
+        if let [b'\n', behind @ ..] = rest {
+            return Some((count, behind));
         }
         let (number, behind) = spaced_number(rest)?;
-        numbers.push(number);
+        numbers[count] = number;
+        count += 1;
         rest = behind;
     }
     let behind = after(rest, b"\n")?;
-    Some(behind)
+    Some((count, behind))
 }
 
-/// Reads the gate line at the start, as letters and numbers. What the buffer of the numbers held is lost.
+/// Reads the gate line at the start, as letters and numbers.
 pub fn line_words<'b>(bytes: &'b [u8], numbers: &mut Numbers) -> Option<LineWords<'b>>
-    ensures some { IfSome result (λ words. HasNoSpace words.letters.now × IsLineOf bytes.now words.letters.now numbers.new.items words.rest.now) }
-    ensures numbers { IfSome result (λ words. AreLineNumbers numbers.new.items) }
-    ensures none { IfNone result ((word ns rest : List ℕ) → HasNoSpace word → AreLineNumbers ns → ¬ IsLineOf bytes.now word ns rest) }
 {
     let (letters, behind) = word_at(bytes)?;
-    let rest = spaced_numbers(behind, numbers)?;
-    Some(LineWords { letters, rest })
+    let (count, rest) = spaced_numbers(behind, numbers)?;
+    Some(LineWords { letters, count, rest })
 }
 
 /// The X gate of this number of controls on these wires, the target last.

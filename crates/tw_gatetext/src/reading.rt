@@ -16,7 +16,7 @@ ghost use Rattle.tw_gatetext.specs.declared.file.GateFault.TheVariants as fault;
 
 use crate::file::{GateFault, GateFile};
 use crate::gate_fits::{fits_level, fits_wires};
-use crate::gate_words::{Numbers, gate_of, line_words};
+use crate::gate_words::{MOST_NUMBERS, Numbers, gate_of, line_words};
 use crate::header::{Header, read_header};
 use crate::line_fault::{NumberLimit, refused_line};
 use itoa::Buffer;
@@ -42,7 +42,7 @@ fn refused_gate_line(level: Level, line: u32, bytes: &[u8]) -> GateFault
 }
 
 /// The gate of a line of this word and these numbers, if it fits a file with this header.
-fn right_gate<'n>(header: &Header, word: &[u8], numbers: &'n Numbers) -> Option<Gate<'n>>
+fn right_gate<'n>(header: &Header, word: &[u8], numbers: &'n [u32]) -> Option<Gate<'n>>
     ensures some { IfSome result (λ gate. FitsLevel header.now.level (plain gate) × FitsWires header.now.wires (plain gate)
         × (word.now ≡ letters (plain gate)) × (numbers.now.items ≡ numbers_of (plain gate))) }
     ensures none { IfNone result ((gate : PlainGate) → FitsLevel header.now.level gate → FitsWires header.now.wires gate
@@ -75,7 +75,7 @@ fn take_gate<'b>(
     let Some(words) = line_words(bytes, numbers) else {
         return Err(refused_gate_line(header.level, line, bytes));
     };
-    let Some(gate) = right_gate(header, words.letters, numbers) else {
+    let Some(gate) = right_gate(header, words.letters, &numbers[..words.count]) else {
         return Err(refused_gate_line(header.level, line, bytes));
     };
     match gates.push(&gate) {
@@ -103,7 +103,7 @@ fn read_body<'b>(alloc: Global, header: &Header, bytes: &'b [u8]) -> Result<Body
         → (why ≡ fault.Memory) ⊎ IsRefusedText all why) }
 {
     let mut gates = GateList::new(alloc);
-    let mut numbers = Numbers::new();
+    let mut numbers: Numbers = [0; MOST_NUMBERS];
     let mut t_count = 0;
     let mut rest = bytes;
     for lines in 0..header.gates {
