@@ -1,5 +1,5 @@
 //! Gate lines as letters and numbers, and the gates that they denote.
-ghost use Rattle.std.specs.Prelude.{◌≡◌, ◌≢◌, ℕ, ◌<◌, ◌≤◌, ◌^◌, ◌++◌, [], ◌∷◌, List, length, codes, decimal, IfSome};
+ghost use Rattle.std.specs.Prelude.{◌≡◌, ◌≢◌, ℕ, ◌<◌, ◌≤◌, ◌^◌, ◌++◌, [], ◌∷◌, List, length, take, codes, decimal, IfSome};
 ghost use Rattle.std.specs.Option.{IfNone};
 ghost use Rattle.std.specs.List.{AllByRecursion};
 ghost use Rattle.tw_gate.specs.Gates.{PlainGate, plain, X};
@@ -8,16 +8,14 @@ ghost use Rattle.tw_gatetext.specs.Text.{spaced};
 ghost use Rattle.tw_gatetext.specs.LineWords.{letters, numbers_of};
 ghost use Rattle.tw_gatetext.specs.Reading.{HasNoSpace, AreLineNumbers, IsLineOf};
 
+use crate::numbers::number_at;
 use tw_gate::Gate;
 use tw_text::{CONTROLS_LIMIT, after};
 
 /// The most numbers of a line: a count of controls, the controls and a target.
 pub const MOST_NUMBERS: usize = CONTROLS_LIMIT as usize + 2;
 
-/// Room for the numbers of a line.
-pub type Numbers = [u32; MOST_NUMBERS];
-
-/// A gate line: its letters, and the bytes after the line.
+/// A gate line: its letters, how many numbers it has, and the bytes after the line.
 #[derive(Clone, Copy)]
 pub struct LineWords<'b> {
     pub letters: &'b [u8],
@@ -36,37 +34,29 @@ fn word_at(bytes: &[u8]) -> Option<(&[u8], &[u8])>
 }
 
 /// The number after a space, and the bytes after it.
-fn short_number(bytes: &[u8]) -> Option<(u32, &[u8])>
-{
-    let most = bytes.len().min(10);
-    let mut value: u64 = 0;
-    let mut used = 0;
-    while used < most && bytes[used].is_ascii_digit() {
-        value = value * 10 + u64::from(bytes[used] - b'0');
-        used += 1;
-    }
-    if used == 0 || used > 1 && bytes[0] == b'0' {
-        return None;
-    }
-    Some((u32::try_from(value).ok()?, &bytes[used..]))
-}
-
-/// The number after a space, and the bytes after it.
 fn spaced_number(bytes: &[u8]) -> Option<(u32, &[u8])>
+    ensures some { IfSome result (λ found. bytes.now ≡ codes " " ++ (decimal found.0 ++ found.1.now)) }
+    ensures only { IfSome result (λ found. (n : ℕ) (ns rest : List ℕ) → n < 2 ^ 32 → bytes.now ≡ spaced (n ∷ ns) ++ (codes "\n" ++ rest) → (n ≡ found.0) × (found.1.now ≡ spaced ns ++ (codes "\n" ++ rest))) }
+    ensures none { IfNone result ((n : ℕ) (ns rest : List ℕ) → n < 2 ^ 32 → ¬ (bytes.now ≡ spaced (n ∷ ns) ++ (codes "\n" ++ rest))) }
 {
-    match bytes {
-        [b' ', digits @ ..] => short_number(digits),
-        _ => None,
-    }
+    let (number, rest) = number_at(after(bytes, b" ")?)?;
+    Some((u32::try_from(number).ok()?, rest))
 }
 
-/// Reads the numbers up to the end of the line, each after a space. Returns their count and the bytes after the line.
-fn spaced_numbers<'b>(bytes: &'b [u8], numbers: &mut Numbers) -> Option<(usize, &'b [u8])>
+/// Reads the numbers up to the end of the line, each after a space, into a buffer of as many numbers as a line can have. Returns
+/// how many they are, and the bytes after the line.
+fn spaced_numbers<'b>(bytes: &'b [u8], numbers: &mut [u32]) -> Option<(usize, &'b [u8])>
+    requires { length numbers.old ≡ MOST_NUMBERS }
+    ensures len { length numbers.new ≡ MOST_NUMBERS }
+    ensures some { IfSome result (λ found. bytes.now ≡ spaced (take found.0 numbers.new) ++ (codes "\n" ++ found.1.now)) }
+    ensures few { IfSome result (λ found. found.0 ≤ MOST_NUMBERS) }
+    ensures small { IfSome result (λ found. AllByRecursion (λ n. n < 2 ^ 32) (take found.0 numbers.new)) }
+    ensures none { IfNone result ((ns rest : List ℕ) → length ns ≤ MOST_NUMBERS → AllByRecursion (λ n. n < 2 ^ 32) ns → ¬ (bytes.now ≡ spaced ns ++ (codes "\n" ++ rest))) }
 {
     let mut count = 0;
     let mut rest = bytes;
-    while count < MOST_NUMBERS {
-        if let [b'\n', behind @ ..] = rest {
+    while count < numbers.len() {
+        if let Some(behind) = after(rest, b"\n") {
             return Some((count, behind));
         }
         let (number, behind) = spaced_number(rest)?;
@@ -78,12 +68,22 @@ fn spaced_numbers<'b>(bytes: &'b [u8], numbers: &mut Numbers) -> Option<(usize, 
     Some((count, behind))
 }
 
-/// Reads the gate line at the start, as letters and numbers.
-pub fn line_words<'b>(bytes: &'b [u8], numbers: &mut Numbers) -> Option<LineWords<'b>>
+/// Reads the gate line at the start, as letters and numbers, into a buffer of as many numbers as a line can have.
+pub fn line_words<'b>(bytes: &'b [u8], numbers: &mut [u32]) -> Option<LineWords<'b>>
+    requires { length numbers.old ≡ MOST_NUMBERS }
+    ensures len { length numbers.new ≡ MOST_NUMBERS }
+    ensures few { IfSome result (λ words. words.count ≤ MOST_NUMBERS) }
+    ensures some { IfSome result (λ words. HasNoSpace words.letters.now × IsLineOf bytes.now words.letters.now (take words.count numbers.new) words.rest.now) }
+    ensures numbers { IfSome result (λ words. AreLineNumbers (take words.count numbers.new)) }
+    ensures none { IfNone result ((word ns rest : List ℕ) → HasNoSpace word → AreLineNumbers ns → ¬ IsLineOf bytes.now word ns rest) }
 {
     let (letters, behind) = word_at(bytes)?;
     let (count, rest) = spaced_numbers(behind, numbers)?;
-    Some(LineWords { letters, count, rest })
+    Some(LineWords {
+        letters,
+        count,
+        rest,
+    })
 }
 
 /// The X gate of this number of controls on these wires, the target last.

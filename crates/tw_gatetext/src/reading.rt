@@ -4,6 +4,7 @@ ghost use Rattle.std.specs.Option.{IfNone};
 ghost use Rattle.tw_gate.specs.Gates.{PlainGate, plain};
 ghost use Rattle.tw_gate.specs.Weight.{gate_weight, t_count};
 ghost use Rattle.tw_text.specs.declared.limits.TheConstants.{WIRES_LIMIT, LINES_LIMIT};
+ghost use Rattle.tw_gatetext.specs.declared.gate_words.TheConstants.{MOST_NUMBERS};
 ghost use Rattle.tw_gatetext.specs.Text.{File, file_text, HasFewControls};
 ghost use Rattle.tw_gatetext.specs.Valid.{FitsLevel, FitsWires};
 ghost use Rattle.tw_gatetext.specs.LineWords.{letters, numbers_of};
@@ -16,7 +17,7 @@ ghost use Rattle.tw_gatetext.specs.declared.file.GateFault.TheVariants as fault;
 
 use crate::file::{GateFault, GateFile};
 use crate::gate_fits::{fits_level, fits_wires};
-use crate::gate_words::{MOST_NUMBERS, Numbers, gate_of, line_words};
+use crate::gate_words::{MOST_NUMBERS, gate_of, line_words};
 use crate::header::{Header, read_header};
 use crate::line_fault::{NumberLimit, refused_line};
 use itoa::Buffer;
@@ -44,9 +45,9 @@ fn refused_gate_line(level: Level, line: u32, bytes: &[u8]) -> GateFault
 /// The gate of a line of this word and these numbers, if it fits a file with this header.
 fn right_gate<'n>(header: &Header, word: &[u8], numbers: &'n [u32]) -> Option<Gate<'n>>
     ensures some { IfSome result (λ gate. FitsLevel header.now.level (plain gate) × FitsWires header.now.wires (plain gate)
-        × (word.now ≡ letters (plain gate)) × (numbers.now.items ≡ numbers_of (plain gate))) }
+        × (word.now ≡ letters (plain gate)) × (numbers.now ≡ numbers_of (plain gate))) }
     ensures none { IfNone result ((gate : PlainGate) → FitsLevel header.now.level gate → FitsWires header.now.wires gate
-        → word.now ≡ letters gate → ¬ (numbers.now.items ≡ numbers_of gate)) }
+        → word.now ≡ letters gate → ¬ (numbers.now ≡ numbers_of gate)) }
 {
     let gate = gate_of(word, numbers)?;
     if fits_level(header.level, &gate) && fits_wires(header.wires, &gate) {
@@ -58,16 +59,18 @@ fn right_gate<'n>(header: &Header, word: &[u8], numbers: &'n [u32]) -> Option<Ga
 
 /// Takes the gate line of this number: appends its gate to the list. Returns the T-count of the gate, and the bytes after the
 /// line.
-/// What the buffer of the line's numbers held is lost.
+/// The buffer has room for as many numbers as a line can have; what it held is lost.
 fn take_gate<'b>(
     header: &Header,
     line: u32,
     bytes: &'b [u8],
-    numbers: &mut Numbers,
+    numbers: &mut [u32],
     gates: &mut GateList,
 ) -> Result<(u64, &'b [u8]), GateFault>
     requires few_wires { header.now.wires ≤ WIRES_LIMIT }
+    requires room { length numbers.old ≡ MOST_NUMBERS }
     requires more { length gates.old < header.now.gates }
+    ensures room { length numbers.new ≡ MOST_NUMBERS }
     ensures right { IfOk result (λ taken. StepsTo (InBody (head_seen header.now) gates.old) bytes.now (InBody (head_seen header.now) gates.new) taken.1.now) }
     ensures taken { IfOk result (λ taken. (gate : PlainGate) × (gates.new ≡ gates.old ++ gate ∷ []) × (taken.0 ≡ gate_weight gate) × HasFewControls gate) }
     ensures refused { IfErr result (λ why. (why ≡ fault.Memory) ⊎ IsRefusedLine (InBody (head_seen header.now) gates.old) bytes.now line why) }
@@ -103,7 +106,7 @@ fn read_body<'b>(alloc: Global, header: &Header, bytes: &'b [u8]) -> Result<Body
         → (why ≡ fault.Memory) ⊎ IsRefusedText all why) }
 {
     let mut gates = GateList::new(alloc);
-    let mut numbers: Numbers = [0; MOST_NUMBERS];
+    let mut numbers = [0; MOST_NUMBERS];
     let mut t_count = 0;
     let mut rest = bytes;
     for lines in 0..header.gates {
