@@ -34,6 +34,7 @@ fn word_at(bytes: &[u8]) -> Option<(&[u8], &[u8])>
 }
 
 /// The number after a space, and the bytes after it.
+#[inline(always)]
 fn spaced_number(bytes: &[u8]) -> Option<(u32, &[u8])>
     ensures some { IfSome result (λ found. bytes.now ≡ codes " " ++ (decimal found.0 ++ found.1.now)) }
     ensures only { IfSome result (λ found. (n : ℕ) (ns rest : List ℕ) → n < 2 ^ 32 → bytes.now ≡ spaced (n ∷ ns) ++ (codes "\n" ++ rest) → (n ≡ found.0) × (found.1.now ≡ spaced ns ++ (codes "\n" ++ rest))) }
@@ -45,6 +46,7 @@ fn spaced_number(bytes: &[u8]) -> Option<(u32, &[u8])>
 
 /// Reads the numbers up to the end of the line, each after a space, into a buffer of as many numbers as a line can have. Returns
 /// how many they are, and the bytes after the line.
+#[inline(always)]
 fn spaced_numbers<'b>(bytes: &'b [u8], numbers: &mut [u32]) -> Option<(usize, &'b [u8])>
     requires { length numbers.old ≡ MOST_NUMBERS }
     ensures len { length numbers.new ≡ MOST_NUMBERS }
@@ -69,6 +71,7 @@ fn spaced_numbers<'b>(bytes: &'b [u8], numbers: &mut [u32]) -> Option<(usize, &'
 }
 
 /// Reads the gate line at the start, as letters and numbers, into a buffer of as many numbers as a line can have.
+#[inline(always)]
 pub fn line_words<'b>(bytes: &'b [u8], numbers: &mut [u32]) -> Option<LineWords<'b>>
     requires { length numbers.old ≡ MOST_NUMBERS }
     ensures len { length numbers.new ≡ MOST_NUMBERS }
@@ -103,6 +106,7 @@ fn x_gate(wires: &[u32], controls: usize) -> Option<Gate<'_>>
 }
 
 /// The gate of this word and these numbers.
+#[inline(always)]
 pub fn gate_of<'n>(word: &[u8], numbers: &'n [u32]) -> Option<Gate<'n>>
     ensures some { IfSome result (λ gate. (word.now ≡ letters (plain gate)) × (numbers.now ≡ numbers_of (plain gate))) }
     ensures none { IfNone result ((gate : PlainGate) → word.now ≡ letters gate → ¬ (numbers.now ≡ numbers_of gate)) }
