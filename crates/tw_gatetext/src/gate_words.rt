@@ -1,6 +1,7 @@
 //! Gate lines as letters and numbers, and the gates that they denote.
 ghost use Rattle.std.specs.Prelude.{◌≡◌, ◌≢◌, ℕ, ◌<◌, ◌≤◌, ◌^◌, ◌++◌, [], ◌∷◌, List, length, take, codes, decimal, IfSome};
-ghost use Rattle.std.specs.Option.{IfNone};
+ghost use Rattle.std.specs.Option.{IfNone, option_copied};
+ghost use Rattle.tw_text.specs.Front.{after};
 ghost use Rattle.std.specs.List.{AllByRecursion};
 ghost use Rattle.tw_gate.specs.Gates.{PlainGate, plain, X};
 ghost use Rattle.tw_gatetext.specs.declared.gate_words.TheConstants.{MOST_NUMBERS};
@@ -10,7 +11,7 @@ ghost use Rattle.tw_gatetext.specs.Reading.{HasNoSpace, AreLineNumbers, IsLineOf
 
 use crate::numbers::number_at;
 use tw_gate::Gate;
-use tw_text::{CONTROLS_LIMIT, after};
+use tw_text::CONTROLS_LIMIT;
 
 /// The most numbers of a line: a count of controls, the controls and a target.
 pub const MOST_NUMBERS: usize = CONTROLS_LIMIT as usize + 2;
@@ -33,6 +34,17 @@ fn word_at(bytes: &[u8]) -> Option<(&[u8], &[u8])>
     Some((&bytes[..end], &bytes[end..]))
 }
 
+/// The bytes after this one. `None` if they do not begin with it. It is [`after`](tw_text::after) for one byte, without a loop.
+#[inline(always)]
+fn after_byte(byte: u8, bytes: &[u8]) -> Option<&[u8]>
+    ensures { option_copied result ≡ after (byte ∷ []) bytes.now }
+{
+    match bytes.split_first() {
+        Some((first, rest)) if *first == byte => Some(rest),
+        _ => None,
+    }
+}
+
 /// The number after a space, and the bytes after it.
 #[inline(always)]
 fn spaced_number(bytes: &[u8]) -> Option<(u32, &[u8])>
@@ -40,7 +52,7 @@ fn spaced_number(bytes: &[u8]) -> Option<(u32, &[u8])>
     ensures only { IfSome result (λ found. (n : ℕ) (ns rest : List ℕ) → n < 2 ^ 32 → bytes.now ≡ spaced (n ∷ ns) ++ (codes "\n" ++ rest) → (n ≡ found.0) × (found.1.now ≡ spaced ns ++ (codes "\n" ++ rest))) }
     ensures none { IfNone result ((n : ℕ) (ns rest : List ℕ) → n < 2 ^ 32 → ¬ (bytes.now ≡ spaced (n ∷ ns) ++ (codes "\n" ++ rest))) }
 {
-    let (number, rest) = number_at(after(bytes, b" ")?)?;
+    let (number, rest) = number_at(after_byte(b' ', bytes)?)?;
     Some((u32::try_from(number).ok()?, rest))
 }
 
@@ -58,7 +70,7 @@ fn spaced_numbers<'b>(bytes: &'b [u8], numbers: &mut [u32]) -> Option<(usize, &'
     let mut count = 0;
     let mut rest = bytes;
     while count < numbers.len() {
-        if let Some(behind) = after(rest, b"\n") {
+        if let Some(behind) = after_byte(b'\n', rest) {
             return Some((count, behind));
         }
         let (number, behind) = spaced_number(rest)?;
@@ -66,7 +78,7 @@ fn spaced_numbers<'b>(bytes: &'b [u8], numbers: &mut [u32]) -> Option<(usize, &'
         count += 1;
         rest = behind;
     }
-    let behind = after(rest, b"\n")?;
+    let behind = after_byte(b'\n', rest)?;
     Some((count, behind))
 }
 
