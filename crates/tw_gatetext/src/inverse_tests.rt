@@ -71,15 +71,23 @@ fn stops_at_a_fault(rt: HostRuntime) -> Result<(), AllocError> {
     Ok(())
 }
 
+const LINE: &[u8] = b"cx 0 1\n";
+
+const MORE: &[u8] = b"more";
+
 #[test]
-fn reads_texts(rt: HostRuntime) {
-    let text = b"tower-gates 1\nlevel mcx\nwires 2\ngates 1\nt-count 0\ncx 0 1\nend\nmore";
-    assert!(rt;
-        matches!(
-            read_text(text),
-            Ok(parts) if parts.header.len() == 50 && parts.lines == b"cx 0 1\n".as_slice() && parts.gates == 1 && parts.rest == b"more".as_slice()
-        )
-    );
+fn reads_texts(rt: HostRuntime) -> Result<(), GateFault> {
+    let parts = read_text(
+        b"tower-gates 1\nlevel mcx\nwires 2\ngates 1\nt-count 0\ncx 0 1\nend\nmore",
+    )?;
+    assert_eq!(rt; parts.header.len(), 50);
+    assert_eq!(rt; parts.lines, LINE);
+    assert_eq!(rt; parts.gates, 1);
+    assert_eq!(rt; parts.rest, MORE);
     let wrong = b"tower-gates 1\nlevel mcx\nwires 2\ngates 1\nt-count 0\ncx 1 1\nend\n";
-    assert!(rt; matches!(read_text(wrong), Err(GateFault::BadGateText { line: 6 })));
+    assert_eq!(rt;
+        read_text(wrong).err(),
+        Some(GateFault::BadGateText { line: 6 })
+    );
+    Ok(())
 }
