@@ -6,11 +6,12 @@ use Rattle.tw_text.specs.Front.{after}
 use Rattle.tw_text.proofs.Fronts.{after-append, append-after}
 use Rattle.tower.specs.Simulate.{HasLines, AtEnd, AtMark, AfterMark}
 
-empty : (bytes : List ℕ) → (length bytes == 0) ≡ true → bytes ≡ []
+-- bytes of length 0
+pub empty : (bytes : List ℕ) → (length bytes == 0) ≡ true → bytes ≡ []
 empty [] is = refl
 empty (byte ∷ bytes) is = absurd (omega (arith, (Decides-eqb (length (byte ∷ bytes)) 0).0 is))
 
-some : (bytes : List ℕ) → (length bytes == 0) ≡ false → bytes ≢ []
+pub some : (bytes : List ℕ) → (length bytes == 0) ≡ false → bytes ≢ []
 some bytes is e = let none : (length bytes == 0) ≡ true = ap (λ (b : List ℕ). length b == 0) e in cc
 
 none_other : {A : Type 0} (x : A) → None ≡ Some x → ⊥

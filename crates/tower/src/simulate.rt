@@ -62,7 +62,7 @@ fn answer_rest<K: Sink>(
     }
     match lines_after(rest) {
         Some(lines) => answer_lines(alloc, file, lines, output),
-        None => Err(wrong_after(file)),
+        None => Err(wrong_after(file.gates.len() as u32)),
     }
 }
 

@@ -130,6 +130,20 @@ impl GateList {
     }
 }
 
+/// Appends all of these. If memory runs out, the pool is unchanged. A gate has few controls: a loop is faster than one copy.
+fn push_all(pool: &mut Vec<u32>, controls: &[u32]) -> Result<(), AllocError>
+    ensures { pool.new.items ≡ (if is_ok result then pool.old.items ++ controls.now else pool.old.items) }
+{
+    let len = pool.len();
+    for control in controls {
+        if pool.push(*control).is_err() {
+            pool.truncate(len);
+            return Err(AllocError);
+        }
+    }
+    Ok(())
+}
+
 /// Appends the controls of a gate to the pool, and returns the entry that names them there.
 ///
 /// An error: out of memory, or more controls than an entry names. Then the pool is unchanged.
@@ -140,11 +154,13 @@ fn pool_controls(pool: &mut Vec<u32>, gate: &Gate) -> Result<Entry, AllocError>
 {
     match *gate {
         Gate::X { controls, target } => {
-            let (Ok(from), Ok(count)) = (u32::try_from(pool.len()), u16::try_from(controls.len()))
-            else {
+            let Ok(from) = u32::try_from(pool.len()) else {
                 return Err(AllocError);
             };
-            pool.extend_from_slice(controls)?;
+            let Ok(count) = u16::try_from(controls.len()) else {
+                return Err(AllocError);
+            };
+            push_all(pool, controls)?;
             Ok(Entry {
                 kind: Kind::X,
                 controls: count,

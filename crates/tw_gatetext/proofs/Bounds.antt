@@ -63,7 +63,8 @@ numbers_below bound level wires (Tdg wire) room few level_fits fits = (omega (ar
 pub small_numbers : (level : Level) (wires : ℕ) (gate : PlainGate) → wires ≤ WIRES_LIMIT → FitsLevel level gate → FitsWires wires gate → HasSmallNumbers gate
 small_numbers level wires gate few level_fits fits = numbers_below (2 ^ 64) level wires gate (omega arith) (omega arith) level_fits fits
 
-small_gates : (level : Level) (wires : ℕ) (gates : List PlainGate) → wires ≤ WIRES_LIMIT → AllByRecursion (FitsLevel level) gates → AllByRecursion (FitsWires wires) gates → AllByRecursion HasSmallNumbers gates
+-- the numbers of gates that fit are below 2 ^ 64
+pub small_gates : (level : Level) (wires : ℕ) (gates : List PlainGate) → wires ≤ WIRES_LIMIT → AllByRecursion (FitsLevel level) gates → AllByRecursion (FitsWires wires) gates → AllByRecursion HasSmallNumbers gates
 small_gates level wires [] few level_fits fits = tt
 small_gates level wires (gate ∷ gates) few level_fits fits =
     (small_numbers level wires gate few level_fits.0 fits.0, small_gates level wires gates few level_fits.1 fits.1)

@@ -1,5 +1,5 @@
 -- The digits that a text begins with, and the suffix after them.
-use Rattle.std.proofs.Common.{◌≡◌, ◌∙◌, ap, sym, ℕ, Bool, true, false, cond, List, [], ◌∷◌, ◌++◌, decimal, codes, Some, None, refl}
+use Rattle.std.proofs.Common.{◌≡◌, ◌∙◌, ap, sym, ℕ, Bool, true, false, cond, List, [], ◌∷◌, ◌++◌, decimal, codes, Option, Some, None, refl}
 use Rattle.std.specs.Char.{is_ascii_digit}
 use Rattle.std.proofs.lemmas.List.{append_cancel_left}
 use Rattle.std.proofs.lemmas.List.Sums.{take_while-cons}
@@ -7,7 +7,7 @@ use Rattle.std.proofs.lemmas.Fmt.{decimal_injective}
 use Rattle.tw_text.specs.Digits.{digit_run}
 use Rattle.tw_text.specs.Front.{after}
 use Rattle.tw_text.proofs.Decimals.{digit_run-decimal}
-use Rattle.tw_text.proofs.Fronts.{after-append}
+use Rattle.tw_text.proofs.Fronts.{after-append, append-after}
 use Rattle.tw_gatetext.specs.Numerals.{Shows, Word, Larger, IsNumeral}
 use Rattle.tw_gatetext.proofs.Delimited.{Ends, Small}
 
@@ -15,6 +15,14 @@ pub not_after : (front bytes rest : List ℕ) → None ≡ after front bytes →
 not_after front bytes rest none e =
     let found : after front bytes ≡ Some rest = ap (after front) e ∙ after-append front rest in
     cc
+
+after_none : (front bytes : List ℕ) (found : Option (List ℕ)) → after front bytes ≡ found → ((rest : List ℕ) → ¬ (bytes ≡ front ++ rest)) → None ≡ found
+after_none front bytes None is never = refl
+after_none front bytes (Some rest) is never = absurd (never rest (append-after front bytes rest is))
+
+-- bytes that do not begin with a prefix have no suffix after it
+pub none_after : (front bytes : List ℕ) → ((rest : List ℕ) → ¬ (bytes ≡ front ++ rest)) → None ≡ after front bytes
+none_after front bytes never = after_none front bytes (after front bytes) refl never
 
 pub run-told : (n : ℕ) (bytes text : List ℕ) → Small n → Ends text → bytes ≡ decimal n ++ text → digit_run bytes ≡ decimal n
 run-told n bytes text small end e =

@@ -7,11 +7,17 @@ pub mod Delimited
 pub mod DigitRuns
 pub mod Examples
 pub mod HeaderLines
+pub mod InverseFiles
+pub mod InverseLines
+pub mod LastLines
 pub mod Limits
 pub mod LineGates
+pub mod LineEnds
 pub mod Lists
 pub mod OneToOne
+pub mod Putting
 pub mod Refusals
+pub mod ReversedLines
 pub mod RightLines
 pub mod SpacedNumbers
 pub mod TakenGates

@@ -1,5 +1,6 @@
 -- How the pieces of a line and of a file are concatenated.
-use Rattle.std.proofs.Common.{◌≡◌, ◌∙◌, ℕ, List, [], ◌∷◌, ◌++◌, length, decimal, codes, Option, Result, Ok, Err, refl, append_assoc, append-nil}
+use Rattle.std.proofs.Math.Seq.{take-append_seam}
+use Rattle.std.proofs.Common.{◌≡◌, ◌≤◌, ◌-◌, ◌∙◌, ap, arith, take, length-append, ℕ, List, [], ◌∷◌, ◌++◌, length, decimal, codes, Option, Result, Ok, Err, refl, append_assoc, append-nil}
 use Rattle.std.specs.List.{AllByRecursion}
 use Rattle.tw_io.specs.declared.device.WriteFault.{WriteFault}
 use Rattle.tw_io.specs.Devices.{Wrote}
@@ -13,6 +14,15 @@ use Rattle.tw_gatetext.specs.Text.{x_words, spaced, line, lines, header, last_li
 pub all_push : {X : Type 0} (P : X → Type 0) (xs : List X) (x : X) → AllByRecursion P xs → P x → AllByRecursion P (xs ++ x ∷ [])
 all_push P [] x all last = (last, tt)
 all_push P (y ∷ xs) x all last = (all.0, all_push P xs x all.1 last)
+
+-- the front of a text, by the length of the rest
+pub front_part : (text front rest : List ℕ) → text ≡ front ++ rest → take (length text - length rest) text ≡ front
+front_part text front rest is =
+    let size : length text - length rest ≡ length front = omega (arith, ap length is, length-append front rest) in
+    ap (λ (n : ℕ). take n text) size ∙ ap (take (length front)) is ∙ take-append_seam front rest
+
+pub rest_fits : (text front rest : List ℕ) → text ≡ front ++ rest → length rest ≤ length text
+rest_fits text front rest is = omega (arith, ap length is, length-append front rest)
 
 pub spaced-append : (xs ys : List ℕ) → spaced (xs ++ ys) ≡ spaced xs ++ spaced ys
 spaced-append [] ys = refl

@@ -45,9 +45,14 @@ pub taken-small : (head : Head) (bytes : List ℕ) (lines : ℕ) (gates : List P
     → ((gate : PlainGate) × (after ≡ gates ++ gate ∷ []) × (weight ≡ gate_weight gate) × HasFewControls gate) → count + weight ≤ 875 * (lines + 1)
 taken-small head bytes lines gates count rest after weight so taken = omega (arith, gate_weight-le taken.0 taken.3, so.small, taken.2)
 
+-- the next line is refused
+pub taken-wrong : (head : Head) (bytes : List ℕ) (lines : ℕ) (gates : List PlainGate) (count : ℕ) (rest : List ℕ) (why : GateFault) → HasTaken head bytes lines gates count rest
+    → IsRefusedLine (InBody head gates) rest (6 + lines) why → (all : List ℕ) → Reaches all 5 (InBody head []) bytes → IsRefusedText all why
+taken-wrong head bytes lines gates count rest why so refused all chain =
+    refused_after all (5 + lines) (InBody head gates) rest why (so.chain all chain) (subst (λ (line : ℕ). IsRefusedLine (InBody head gates) rest line why) (omega arith) refused)
+
 -- the next line was not taken: out of memory, or it is refused
 pub taken-refused : (head : Head) (bytes : List ℕ) (lines : ℕ) (gates : List PlainGate) (count : ℕ) (rest : List ℕ) (why : GateFault) → HasTaken head bytes lines gates count rest
     → (why ≡ fault.Memory) ⊎ IsRefusedLine (InBody head gates) rest (6 + lines) why → (all : List ℕ) → Reaches all 5 (InBody head []) bytes → (why ≡ fault.Memory) ⊎ IsRefusedText all why
 taken-refused head bytes lines gates count rest why so (inl memory) all chain = inl memory
-taken-refused head bytes lines gates count rest why so (inr refused) all chain =
-    inr (refused_after all (5 + lines) (InBody head gates) rest why (so.chain all chain) (subst (λ (line : ℕ). IsRefusedLine (InBody head gates) rest line why) (omega arith) refused))
+taken-refused head bytes lines gates count rest why so (inr refused) all chain = inr (taken-wrong head bytes lines gates count rest why so refused all chain)

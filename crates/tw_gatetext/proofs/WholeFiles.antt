@@ -1,7 +1,7 @@
 -- The chains of right lines to a whole file are the valid files.
 use Rattle.std.proofs.Common.{◌≡◌, ◌∙◌, ap, sym, subst, subst₂, ℕ, ◌+◌, ◌<◌, ◌≤◌, ◌^◌, List, [], ◌∷◌, ◌++◌, length, codes, decimal, refl, arith, append_assoc, append-nil}
 use Rattle.std.specs.List.{AllByRecursion}
-use Rattle.std.proofs.lemmas.List.{length_push}
+use Rattle.std.proofs.lemmas.List.{append_cancel_left, length_push}
 use Rattle.tw_text.proofs.Decimals.{digit_run-decimal}
 use Rattle.tw_gate.specs.declared.gate.Level.{Level}
 use Rattle.tw_gate.specs.Gates.{PlainGate}
@@ -101,6 +101,28 @@ reaches_file bytes count head gates rest chain counted =
       };
       text = told_chain bytes count (Whole head gates) rest chain ∙ told-file head gates rest whole.1 counted;
     }
+
+-- the parts of the text of a file: its header, then the lines of its gates, then the rest
+pub text_parts : (bytes : List ℕ) (n : ℕ) (head : Head) (gates : List PlainGate) (behind end rest : List ℕ) (sum : ℕ) → Reaches bytes 5 (InBody head []) behind → Reaches bytes n (InBody head gates) end → end ≡ last_line ++ rest
+    → BeginsWith bytes (record { level = head.level; wires = head.wires; t_count = sum; gates = gates }) rest
+    → (bytes ≡ header head.level head.wires (length gates) sum ++ behind) × (behind ≡ lines gates ++ end)
+unfolding file_text
+text_parts bytes n head gates behind end rest sum first chain last begins =
+    let begun = valued_line (to_gates head.level head.wires head.gates) (codes "t-count ") head.t_count in
+    let short : bytes ≡ begun ++ behind = told_chain bytes 5 (InBody head []) behind first ∙ ap (λ (t : List ℕ). t ++ behind) (append-nil begun) in
+    let long : bytes ≡ begun ++ (lines gates ++ end) = told_chain bytes n (InBody head gates) end chain ∙ append_assoc begun (lines gates) end in
+    let split : behind ≡ lines gates ++ end = append_cancel_left begun behind (lines gates ++ end) (sym short ∙ long) in
+    let head_text = header head.level head.wires (length gates) sum in (
+      begins.text ∙ append_assoc head_text (lines gates ++ last_line) rest
+          ∙ ap (λ (t : List ℕ). head_text ++ t) (append_assoc (lines gates) last_line rest ∙ ap (λ (t : List ℕ). lines gates ++ t) (sym last) ∙ sym split),
+      split,
+    )
+
+-- the same, with the sum of the T-counts
+pub reaches_file_with : (bytes : List ℕ) (count : ℕ) (head : Head) (sum : ℕ) (gates : List PlainGate) (rest : List ℕ) → Reaches bytes count (Whole head gates) rest → head.t_count ≡ decimal (t_count gates) → sum ≡ t_count gates
+    → BeginsWith bytes (record { level = head.level; wires = head.wires; t_count = sum; gates = gates }) rest
+reaches_file_with bytes count head sum gates rest chain counted is =
+    subst (λ (t : ℕ). BeginsWith bytes (record { level = head.level; wires = head.wires; t_count = t; gates = gates }) rest) (sym is) (reaches_file bytes count head gates rest chain counted)
 
 IsNumeral-decimal : (n : ℕ) → n < 2 ^ 64 → IsNumeral (decimal n)
 IsNumeral-decimal n small =

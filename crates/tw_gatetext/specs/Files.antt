@@ -1,7 +1,8 @@
 -- Gate files in memory, without the addresses of their gates.
-use Rattle.std.specs.Prelude.{◌≡◌, ℕ, List, ◌++◌}
+use Rattle.std.specs.Prelude.{◌≡◌, ℕ, List, ◌++◌, length}
 use Rattle.tw_gatetext.specs.declared.file.GateFile.{GateFile}
-use Rattle.tw_gatetext.specs.Text.{File, file_text}
+use Rattle.tw_gatetext.specs.declared.file.FileText.{FileText}
+use Rattle.tw_gatetext.specs.Text.{File, lines, header, file_text}
 use Rattle.tw_gatetext.specs.Valid.{IsValid}
 
 -- a file of the code
@@ -12,3 +13,9 @@ plain_file file = record { level = file.level; wires = file.wires; t_count = fil
 pub record BeginsWith (bytes : List ℕ) (file : File) (rest : List ℕ) : Type 0 where
   pub valid : IsValid file
   pub text : bytes ≡ file_text file ++ rest
+
+-- the parts of the text of this file
+pub record IsTextOf (text : FileText) (file : File) : Type 0 where
+  pub header : text.header.now ≡ header file.level file.wires (length file.gates) file.t_count
+  pub lines : text.lines.now ≡ lines file.gates
+  pub gates : text.gates ≡ length file.gates

@@ -1,4 +1,5 @@
 pub mod Files
+pub mod Inverting
 pub mod LineWords
 pub mod Lines
 pub mod Numerals

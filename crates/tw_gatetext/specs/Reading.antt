@@ -2,7 +2,8 @@
 use Rattle.std.specs.Prelude.{◌≡◌, ◌≢◌, ℕ, ◌<◌, ◌≤◌, ◌^◌, List, ◌++◌, length, codes}
 use Rattle.std.specs.List.{AllByRecursion}
 use Rattle.tw_gatetext.specs.declared.gate_words.TheConstants.{MOST_NUMBERS}
-use Rattle.tw_gatetext.specs.Text.{spaced}
+use Rattle.tw_gate.specs.Gates.{PlainGate}
+use Rattle.tw_gatetext.specs.Text.{File, spaced}
 use Rattle.tw_gatetext.specs.declared.file.GateFault.{GateFault}
 use Rattle.tw_gatetext.specs.declared.file.GateFault.TheVariants as fault
 use Rattle.tw_gatetext.specs.declared.line_fault.NumberLimit.{NumberLimit}
@@ -17,6 +18,10 @@ limit_seen limit = record { word = limit.word.now; what = limit.what }
 -- a header of the code, whose T-count is a reference into the bytes
 abbrev pub head_seen : Header → Head
 head_seen header = record { level = header.level; wires = header.wires; gates = header.gates; t_count = header.t_count.now }
+
+-- the file of a header of the code, with these gates of this T-count
+abbrev pub file_with : Header → ℕ → List PlainGate → File
+file_with header sum gates = record { level = header.level; wires = header.wires; t_count = sum; gates = gates }
 
 -- the bytes at this point of a file begin with a line, of this number, that is refused for this reason
 abbrev pub IsRefusedLine : Progress → List ℕ → ℕ → GateFault → Type 0

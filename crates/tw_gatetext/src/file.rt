@@ -16,6 +16,19 @@ pub struct GateFile {
     pub gates: GateList,
 }
 
+/// The parts of the text of a gate file, and the bytes after it.
+#[derive(Debug, Clone, Copy)]
+pub struct FileText<'b> {
+    /// The five header lines.
+    pub header: &'b [u8],
+    /// The lines of the gates.
+    pub lines: &'b [u8],
+    /// The number of the gates.
+    pub gates: u32,
+    /// The bytes after the last line.
+    pub rest: &'b [u8],
+}
+
 /// Why bytes begin with no gate file.
 #[derive(Debug, Clone, Copy, PartialEq, Eq, Error)]
 pub enum GateFault {

@@ -7,6 +7,9 @@ mod file;
 mod gate_fits;
 mod gate_words;
 mod header;
+#[cfg(test)]
+mod inverse_tests;
+mod inverting;
 mod line_fault;
 mod line_out;
 mod numbers;
@@ -16,9 +19,12 @@ mod read_tests;
 mod reading;
 #[cfg(test)]
 mod tests;
+mod text_reading;
 mod writing;
 
-pub use file::{GateFault, GateFile};
+pub use file::{FileText, GateFault, GateFile};
+pub use inverting::write_inverse;
 pub use line_out::LineOut;
 pub use reading::read_gates;
+pub use text_reading::read_text;
 pub use writing::{write_end, write_gate, write_gate_file, write_header};

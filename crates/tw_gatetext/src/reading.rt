@@ -4,11 +4,12 @@ ghost use Rattle.std.specs.Option.{IfNone};
 ghost use Rattle.tw_gate.specs.Gates.{PlainGate, plain};
 ghost use Rattle.tw_gate.specs.Weight.{gate_weight, t_count};
 ghost use Rattle.tw_text.specs.declared.limits.TheConstants.{WIRES_LIMIT, LINES_LIMIT};
-ghost use Rattle.tw_gatetext.specs.Text.{File, file_text, HasFewControls};
+ghost use Rattle.tw_gatetext.specs.declared.gate_words.TheConstants.{MOST_NUMBERS};
+ghost use Rattle.tw_gatetext.specs.Text.{File, last_line, file_text, HasFewControls};
 ghost use Rattle.tw_gatetext.specs.Valid.{FitsLevel, FitsWires};
 ghost use Rattle.tw_gatetext.specs.LineWords.{letters, numbers_of};
 ghost use Rattle.tw_gatetext.specs.Lines.{Progress, InBody, Whole, Head, StepsTo, Reaches};
-ghost use Rattle.tw_gatetext.specs.Reading.{head_seen, IsRefusedLine};
+ghost use Rattle.tw_gatetext.specs.Reading.{head_seen, file_with, IsRefusedLine};
 ghost use Rattle.tw_gatetext.specs.Files.{plain_file, BeginsWith};
 ghost use Rattle.tw_gatetext.specs.Refused.{IsWrong, IsRefusedText};
 ghost use Rattle.tw_gatetext.specs.declared.file.GateFault.{GateFault};
@@ -16,7 +17,7 @@ ghost use Rattle.tw_gatetext.specs.declared.file.GateFault.TheVariants as fault;
 
 use crate::file::{GateFault, GateFile};
 use crate::gate_fits::{fits_level, fits_wires};
-use crate::gate_words::{Numbers, gate_of, line_words};
+use crate::gate_words::{MOST_NUMBERS, gate_of, line_words};
 use crate::header::{Header, read_header};
 use crate::line_fault::{NumberLimit, refused_line};
 use itoa::Buffer;
@@ -31,7 +32,7 @@ const CONTROLS: NumberLimit = NumberLimit {
 };
 
 /// The refusal of the line of this number, which is no right gate line.
-fn refused_gate_line(level: Level, line: u32, bytes: &[u8]) -> GateFault
+pub fn refused_gate_line(level: Level, line: u32, bytes: &[u8]) -> GateFault
     ensures refused { (head : Head) (gates : List PlainGate) → head.level ≡ level → length gates < head.gates
         → ((next : Progress) (rest : List ℕ) → ¬ StepsTo (InBody head gates) bytes.now next rest) → IsRefusedLine (InBody head gates) bytes.now line result }
 {
@@ -42,11 +43,12 @@ fn refused_gate_line(level: Level, line: u32, bytes: &[u8]) -> GateFault
 }
 
 /// The gate of a line of this word and these numbers, if it fits a file with this header.
-fn right_gate<'n>(header: &Header, word: &[u8], numbers: &'n Numbers) -> Option<Gate<'n>>
+#[inline(always)]
+pub fn right_gate<'n>(header: &Header, word: &[u8], numbers: &'n [u32]) -> Option<Gate<'n>>
     ensures some { IfSome result (λ gate. FitsLevel header.now.level (plain gate) × FitsWires header.now.wires (plain gate)
-        × (word.now ≡ letters (plain gate)) × (numbers.now.items ≡ numbers_of (plain gate))) }
+        × (word.now ≡ letters (plain gate)) × (numbers.now ≡ numbers_of (plain gate))) }
     ensures none { IfNone result ((gate : PlainGate) → FitsLevel header.now.level gate → FitsWires header.now.wires gate
-        → word.now ≡ letters gate → ¬ (numbers.now.items ≡ numbers_of gate)) }
+        → word.now ≡ letters gate → ¬ (numbers.now ≡ numbers_of gate)) }
 {
     let gate = gate_of(word, numbers)?;
     if fits_level(header.level, &gate) && fits_wires(header.wires, &gate) {
@@ -58,16 +60,18 @@ fn right_gate<'n>(header: &Header, word: &[u8], numbers: &'n Numbers) -> Option<
 
 /// Takes the gate line of this number: appends its gate to the list. Returns the T-count of the gate, and the bytes after the
 /// line.
-/// What the buffer of the line's numbers held is lost.
+/// The buffer has room for as many numbers as a line can have; what it held is lost.
 fn take_gate<'b>(
     header: &Header,
     line: u32,
     bytes: &'b [u8],
-    numbers: &mut Numbers,
+    numbers: &mut [u32],
     gates: &mut GateList,
 ) -> Result<(u64, &'b [u8]), GateFault>
     requires few_wires { header.now.wires ≤ WIRES_LIMIT }
+    requires room { length numbers.old ≡ MOST_NUMBERS }
     requires more { length gates.old < header.now.gates }
+    ensures room { length numbers.new ≡ MOST_NUMBERS }
     ensures right { IfOk result (λ taken. StepsTo (InBody (head_seen header.now) gates.old) bytes.now (InBody (head_seen header.now) gates.new) taken.1.now) }
     ensures taken { IfOk result (λ taken. (gate : PlainGate) × (gates.new ≡ gates.old ++ gate ∷ []) × (taken.0 ≡ gate_weight gate) × HasFewControls gate) }
     ensures refused { IfErr result (λ why. (why ≡ fault.Memory) ⊎ IsRefusedLine (InBody (head_seen header.now) gates.old) bytes.now line why) }
@@ -75,7 +79,7 @@ fn take_gate<'b>(
     let Some(words) = line_words(bytes, numbers) else {
         return Err(refused_gate_line(header.level, line, bytes));
     };
-    let Some(gate) = right_gate(header, words.letters, numbers) else {
+    let Some(gate) = right_gate(header, words.letters, &numbers[..words.count]) else {
         return Err(refused_gate_line(header.level, line, bytes));
     };
     match gates.push(&gate) {
@@ -103,7 +107,7 @@ fn read_body<'b>(alloc: Global, header: &Header, bytes: &'b [u8]) -> Result<Body
         → (why ≡ fault.Memory) ⊎ IsRefusedText all why) }
 {
     let mut gates = GateList::new(alloc);
-    let mut numbers = Numbers::new();
+    let mut numbers = [0; MOST_NUMBERS];
     let mut t_count = 0;
     let mut rest = bytes;
     for lines in 0..header.gates {
@@ -121,9 +125,31 @@ fn read_body<'b>(alloc: Global, header: &Header, bytes: &'b [u8]) -> Result<Body
 /// The bytes after the last line.
 fn last_line(bytes: &[u8]) -> Option<&[u8]>
     ensures some { IfSome result (λ rest. (head : Head) (gates : List PlainGate) → length gates ≡ head.gates → StepsTo (InBody head gates) bytes.now (Whole head gates) rest.now) }
+    ensures line { IfSome result (λ rest. bytes.now ≡ last_line ++ rest.now) }
     ensures none { IfNone result ((head : Head) (gates : List PlainGate) → length gates ≡ head.gates → IsWrong (InBody head gates) bytes.now) }
 {
     after(bytes, b"end\n")
+}
+
+/// Reads the last line after the gate lines, and compares the T-count of the gates with the one of the header. Returns the bytes
+/// after the file.
+pub fn read_end<'b>(header: &Header, sum: u64, bytes: &'b [u8]) -> Result<&'b [u8], GateFault>
+    requires { header.now.gates ≤ LINES_LIMIT }
+    ensures file { IfOk result (λ rest. (all : List ℕ) (gates : List PlainGate) → Reaches all (5 + header.now.gates) (InBody (head_seen header.now) gates) bytes.now
+        → length gates ≡ header.now.gates → sum ≡ t_count gates → BeginsWith all (file_with header.now sum gates) rest.now) }
+    ensures line { IfOk result (λ rest. bytes.now ≡ last_line ++ rest.now) }
+    ensures refused { IfErr result (λ why. (all : List ℕ) (gates : List PlainGate) → Reaches all (5 + header.now.gates) (InBody (head_seen header.now) gates) bytes.now
+        → length gates ≡ header.now.gates → sum ≡ t_count gates → IsRefusedText all why) }
+{
+    let Some(rest) = last_line(bytes) else {
+        return Err(GateFault::BadGateText {
+            line: header.gates + 6,
+        });
+    };
+    if header.t_count != Buffer::new().format(sum).as_bytes() {
+        return Err(GateFault::BadGateText { line: 5 });
+    }
+    Ok(rest)
 }
 
 /// The gate file at the start of the bytes, and the bytes after it.
@@ -133,14 +159,7 @@ fn file_at(alloc: Global, bytes: &[u8]) -> Result<(GateFile, &[u8]), GateFault>
 {
     let (header, rest) = read_header(bytes)?;
     let body = read_body(alloc, &header, rest)?;
-    let Some(rest) = last_line(body.rest) else {
-        return Err(GateFault::BadGateText {
-            line: header.gates + 6,
-        });
-    };
-    if header.t_count != Buffer::new().format(body.t_count).as_bytes() {
-        return Err(GateFault::BadGateText { line: 5 });
-    }
+    let rest = read_end(&header, body.t_count, body.rest)?;
     let file = GateFile {
         level: header.level,
         wires: header.wires,

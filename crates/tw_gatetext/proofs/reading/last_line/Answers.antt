@@ -8,6 +8,9 @@ pub returns-clause-some : goal.returns-clause-some
 returns-clause-some c =
     IfSome_then c.after.result (after_some (codes "end\n") c.args.bytes.now _ c.after.ensures) (λ rest is head gates all. last_steps head gates c.args.bytes.now rest.now all is)
 
+pub returns-clause-line : goal.returns-clause-line
+returns-clause-line c = IfSome_then c.after.result (after_some (codes "end\n") c.args.bytes.now _ c.after.ensures) (λ rest is. is)
+
 pub returns-clause-none : goal.returns-clause-none
 returns-clause-none c =
     IfNone_then c.after.result (after_none (codes "end\n") c.args.bytes.now _ c.after.ensures) (λ none head gates all. no_last head gates c.args.bytes.now all none)

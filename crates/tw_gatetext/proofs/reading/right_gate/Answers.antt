@@ -7,7 +7,7 @@ use Rattle.tw_gatetext.proofs.reading.right_gate.Goals.{else-fits_level-via-then
 
 pub returns-else-fits_level-clause-none : goal.returns-else-fits_level-clause-none
 returns-else-fits_level-clause-none c = λ gate level wires word numbers.
-    let same = gate-told gate (plain c.in_ok-gate.gate) (sym word ∙ c.in_ok-gate.ensures.some.0) (sym numbers ∙ sym c.deref.ensures.0 ∙ c.in_ok-gate.ensures.some.1) in
+    let same = gate-told gate (plain c.in_ok-gate.gate) (sym word ∙ c.in_ok-gate.ensures.some.0) (sym numbers ∙ c.in_ok-gate.ensures.some.1) in
     let fits_level = c.fits_level.ensures.1 (subst (λ (g : PlainGate). FitsLevel c.args.header.now.level g) same level) in
     elim c.else-fits_level.branch [
       | else-fits_level-via-then-fits_level+else-fits_wires w ↦
