@@ -1,6 +1,6 @@
 //! The functions of a program.
 ghost use Rattle.std.proofs.Props.{props};
-ghost use Rattle.std.specs.Prelude.{◌≡◌, ◌++◌, ◌∷◌, [], false, length, slice_get, Some, OnOk};
+ghost use Rattle.std.specs.Prelude.{◌≡◌, ◌<◌, ◌++◌, ◌∷◌, [], false, length, slice_get, Some, OnOk};
 ghost use Rattle.std.specs.List.{AllByRecursion};
 ghost use Rattle.tw_syntax.specs.Names.{name_tree};
 ghost use Rattle.tw_syntax.specs.Programs.{fun_tree};
@@ -56,6 +56,13 @@ impl<'a> FunTable<'a> {
         need(!self.has(fun.name.text), Rule::DuplicateName, fun.name.at)?;
         self.put(fun)?;
         Ok(())
+    }
+
+    /// The number of functions.
+    pub fn len(&self) -> usize
+        ensures { result ≡ length (funs_in self.now.table.entries) }
+    {
+        self.table.len()
     }
 
     /// The number of the function of this name: its position in text order.

@@ -9,6 +9,7 @@ mod demand;
 mod fun_table;
 mod names;
 mod paths;
+mod resolved;
 mod sizes;
 mod tables;
 mod target_table;
