@@ -19,3 +19,4 @@ pub mod Sizes
 pub mod Withs
 pub mod Branches
 pub mod Functions
+pub mod Declarations

@@ -4,6 +4,7 @@ use mathlib.Core.Bool.{beq}
 use Rattle.std.proofs.lemmas.Bool.{or_parts}
 use Rattle.tw_resolve.proofs.Each.{each_weaker}
 use Rattle.tw_syntax.specs.Statements.{StmtTree, Nothing, Then, Else, LetStmt, SwapStmt, MemSwapStmt, IfStmt, WithStmt, BlockStmt, SkipStmt}
+use Rattle.tw_resolve.proofs.Declaring.{bytes_eq-sym}
 use Rattle.tw_check.specs.Names.{Names, is_one_of, agree_on}
 use Rattle.tw_check.specs.Liveness.{rhs_names, texts, names_of, live_after}
 use Rattle.tw_check.specs.Right.{Right}
@@ -21,11 +22,11 @@ others_stay false (Then first rest) live name off =
 others_stay forward (Else at stmts) live name off = others_stay forward stmts live name off
 others_stay forward (LetStmt at assigns target rhs) live name off =
     with_name-other live target.text name (beq forward assigns)
-    ((or_parts (bytes_eq target.text name) (is_one_of name (texts (rhs_names rhs))) off).0)
+    (bytes_eq-sym target.text name ∙ (or_parts (bytes_eq name target.text) (is_one_of name (texts (rhs_names rhs))) off).0)
 others_stay forward (SwapStmt at left right) live name off = refl
 others_stay forward (MemSwapStmt at pointer value) live name off = refl
 others_stay forward (IfStmt at cond first other) live name off =
-    let rest = (or_parts (bytes_eq cond.root.text name) _ off).1 in
+    let rest = (or_parts (bytes_eq name cond.root.text) _ off).1 in
     others_stay forward first live name ((off-append name (names_of first) (names_of other) rest).0)
 others_stay forward (WithStmt at setup work) live name off =
     let parts = off-append name (names_of setup) (names_of work) off in

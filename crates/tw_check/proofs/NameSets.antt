@@ -57,10 +57,10 @@ agree_if_same names left right same = each_always (λ name. left name ≡ right 
 
 pub agree_at : (names : List (List ℕ)) (left right : Names) (name : List ℕ) → Agree names left right → is_one_of name names ≡ true → left name ≡ right name
 agree_at [] left right name agree one = absurd (cc)
-agree_at (first ∷ rest) left right name agree one = by (bytes_eq first name) refl one (agree_at rest left right name agree.1)
+agree_at (first ∷ rest) left right name agree one = by (bytes_eq name first) refl one (agree_at rest left right name agree.1)
   where
-    by : (k : Bool) → bytes_eq first name ≡ k → (k || is_one_of name rest) ≡ true → (is_one_of name rest ≡ true → left name ≡ right name) → left name ≡ right name
-    by true same one later = subst (λ x. left x ≡ right x) ((bytes_eq-Decides first name).0 same) agree.0
+    by : (k : Bool) → bytes_eq name first ≡ k → (k || is_one_of name rest) ≡ true → (is_one_of name rest ≡ true → left name ≡ right name) → left name ≡ right name
+    by true same one later = subst (λ x. left x ≡ right x) (sym ((bytes_eq-Decides name first).0 same)) agree.0
     by false other one later = later one
 
 -- cases: a name is on a list, or it is not
@@ -84,7 +84,7 @@ same-Decides names left right off =
 pub is_one_of-append : (name : List ℕ) (xs ys : List (List ℕ)) → is_one_of name (xs ++ ys) ≡ (is_one_of name xs || is_one_of name ys)
 is_one_of-append name [] ys = refl
 is_one_of-append name (x ∷ xs) ys =
-    elim (bytes_eq x name) as (λ k. (k || is_one_of name (xs ++ ys)) ≡ ((k || is_one_of name xs) || is_one_of name ys)) [ true ↦ refl | false ↦ is_one_of-append name xs ys ]
+    elim (bytes_eq name x) as (λ k. (k || is_one_of name (xs ++ ys)) ≡ ((k || is_one_of name xs) || is_one_of name ys)) [ true ↦ refl | false ↦ is_one_of-append name xs ys ]
 
 -- a name that is on neither of two lists
 pub off-append : (name : List ℕ) (xs ys : List (List ℕ)) → is_one_of name (xs ++ ys) ≡ false → (is_one_of name xs ≡ false) × (is_one_of name ys ≡ false)

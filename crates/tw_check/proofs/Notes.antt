@@ -5,6 +5,7 @@ use mathlib.Core.Bool.{beq}
 use Rattle.std.proofs.Common.{◌≡◌, ◌∙◌, ap, refl, ℕ, Bool, true, false, ◌&&◌, ◌||◌, if◌then◌else◌, List, [], ◌∷◌, bytes_eq}
 use Rattle.std.proofs.lemmas.Slice.Eq.{bytes_eq-Decides}
 use Rattle.tw_syntax.specs.declared.name.Name.{Name}
+use Rattle.tw_resolve.proofs.Declaring.{bytes_eq-sym}
 use Rattle.tw_check.specs.Names.{Names, with_name, is_one_of, agree_on}
 use Rattle.tw_check.specs.Walks.{texts_of, noted, is_as_noted, put_back}
 use Rattle.tw_check.proofs.NameSets.{on_or_off}
@@ -18,6 +19,7 @@ is_as_noted-agree_on (name ∷ names) was now = ap (λ rest. beq (was name.text.
 put_back-at : (names : List Name) (was now : Names) (name : List ℕ) → put_back (noted was names) now name ≡ (if is_one_of name (texts_of names) then was name else now name)
 put_back-at [] was now name = refl
 put_back-at (first ∷ names) was now name = put_back-at names was (with_name now first.text.now (was first.text.now)) name ∙ by (bytes_eq first.text.now name) refl (is_one_of name (texts_of names))
+    ∙ ap (λ k. if k || is_one_of name (texts_of names) then was name else now name) (bytes_eq-sym first.text.now name)
   where
     by : (k : Bool) → bytes_eq first.text.now name ≡ k → (later : Bool) → (if later then was name else if k then was first.text.now else now name) ≡ (if k || later then was name else now name)
     by true same true = refl

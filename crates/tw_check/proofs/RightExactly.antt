@@ -5,6 +5,7 @@ use Rattle.tw_resolve.specs.Demands.{first_broken}
 use Rattle.tw_resolve.proofs.Demands.{Holds, EachHolds, none_broken-each}
 use Rattle.tw_resolve.proofs.Each.{each_first, each_rest, each-append}
 use Rattle.tw_syntax.specs.Programs.{FunTree}
+use Rattle.tw_resolve.proofs.Declaring.{bytes_eq-sym}
 use Rattle.tw_check.specs.Names.{Names, no_names, is_one_of, agree_on}
 use Rattle.tw_check.specs.Liveness.{names_of, live_after, param_names, live_at_start, live_at_end}
 use Rattle.tw_check.specs.Right.{Right, IsRight}
@@ -25,9 +26,9 @@ module _ (fun : FunTree) where
 
   off : (name : List ℕ) → is_one_of name names ≡ false → ends name ≡ live_at_end fun name
   off name is_off =
-      let parts = or_parts (bytes_eq fun.returned.text name) (is_one_of name (param_names fun ++ names_of fun.body)) is_off in
+      let parts = or_parts (bytes_eq name fun.returned.text) (is_one_of name (param_names fun ++ names_of fun.body)) is_off in
       others_stay true fun.body (live_at_start fun) name ((off-append name (param_names fun) (names_of fun.body) parts.1).1)
-      ∙ sym (with_name-other (live_at_start fun) fun.returned.text name true parts.0)
+      ∙ sym (with_name-other (live_at_start fun) fun.returned.text name true (bytes_eq-sym fun.returned.text name ∙ parts.0))
 
   -- the test of `Left`: the body ends with the parameters and the result
   pub left-Decides : Decides (agree_on names ends (live_at_end fun)) (ends ≡ live_at_end fun)

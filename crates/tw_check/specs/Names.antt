@@ -1,4 +1,5 @@
 -- Sets of names.
+pub use Rattle.tw_resolve.specs.Declarations.{is_one_of}
 use Rattle.std.specs.Prelude.{◌≡◌, ℕ, Bool, true, false, ◌&&◌, ◌||◌, if◌then◌else◌, List, [], ◌∷◌, codes, refl}
 use Rattle.std.proofs.Math.Bool.{beq}
 use Rattle.std.specs.Str.{bytes_eq}
@@ -13,11 +14,6 @@ no_names name = false
 -- the set with a name put in, or taken out
 abbrev pub with_name : Names → List ℕ → Bool → Names
 with_name names changed is_in name = if bytes_eq changed name then is_in else names name
-
--- whether a name is one of a list
-abbrev pub is_one_of : List ℕ → List (List ℕ) → Bool
-is_one_of name [] = false
-is_one_of name (first ∷ rest) = bytes_eq first name || is_one_of name rest
 
 -- whether two sets agree on each name of a list
 abbrev pub agree_on : List (List ℕ) → Names → Names → Bool

@@ -1,10 +1,11 @@
 -- The rules of reversibility, as demands in the order in which they are tried.
-use Rattle.std.specs.Prelude.{Bool, true, false, ◌&&◌, not, List, [], ◌∷◌, ◌++◌}
+use Rattle.std.specs.Prelude.{Bool, true, false, ◌&&◌, not, List, [], ◌∷◌, ◌++◌, flat_map}
 use Rattle.std.specs.Str.{bytes_eq}
 use Rattle.tw_text.specs.declared.refusal.Rule.TheVariants as rule
 use Rattle.tw_syntax.specs.Names.{NameTree}
-use Rattle.tw_syntax.specs.Programs.{FunTree}
+use Rattle.tw_syntax.specs.Programs.{FunTree, DeclTree}
 use Rattle.tw_syntax.specs.Statements.{StmtTree, Nothing, Then, Else, LetStmt, SwapStmt, MemSwapStmt, IfStmt, WithStmt, BlockStmt, SkipStmt}
+use Rattle.tw_resolve.specs.Declarations.{funs_of}
 use Rattle.tw_resolve.specs.Demands.{Demand, demand}
 use Rattle.tw_check.specs.Names.{Names, no_names, with_name, agree_on}
 use Rattle.tw_check.specs.Liveness.{rhs_names, names_of, live_after, param_names, live_at_start, live_at_end}
@@ -68,3 +69,7 @@ fun_rules fun =
     stmt_rules no_names (live_at_start fun) fun.body
     ++ (used ends fun.returned
     ∷ demand rule.Left fun.return_at (agree_on (fun.returned.text ∷ (param_names fun ++ names_of fun.body)) ends (live_at_end fun)) ∷ [])
+
+-- the rules of all functions of declarations, in text order
+abbrev pub decls_rules : List DeclTree → List Demand
+decls_rules decls = flat_map fun_rules (funs_of decls)

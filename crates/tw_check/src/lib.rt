@@ -2,6 +2,7 @@
 //! The definitions of `specs/` say what each rule demands, and `proofs/` has their laws.
 #![tactic(auto)]
 
+mod checked;
 mod function;
 mod mention;
 mod name_set;

@@ -70,9 +70,6 @@ rhs_print (ExprRhs expr) = expr_print expr
 rhs_print (CallRhs callee bound args) = callee.text ++ (call_bound_print bound ++ (codes "(" ++ (names_print args ++ codes ")")))
 rhs_print (AllocRhs ty) = codes "alloc<" ++ (type_print ty ++ codes ">")
 
-pub type_print-pair : (at : Pos) → type_print (PairType at (UintType at) (PtrType at (NamedType at (codes "list")))) ≡ codes "(uint, ptr<list>)"
-type_print-pair at = refl
-
 pub expr_print-path : (at : Pos) → expr_print (NotExpr at (PlaceAtom at (record { root = record { text = codes "p"; at = at }; steps = 1 ∷ 2 ∷ [] }))) ≡ codes "not p.1.2"
 unfolding digits
 expr_print-path at = refl
