@@ -4,7 +4,8 @@ ghost use Rattle.tw_types.specs.Types.{PairTy};
 ghost use Rattle.tw_types.specs.FromCode.{ty_of};
 ghost use Rattle.tw_resolve.specs.Sizes.{IsSized};
 
-use tw_text::{Arena, Fault};
+use std::alloc::AllocError;
+use tw_text::Arena;
 use tw_types::{Ty, Widths};
 
 /// A type, its depth and its extent, each of which is at most the greatest `u64`.
@@ -21,7 +22,7 @@ pub fn pair<'a>(
     arena: &'a Arena,
     first: SizedTy<'a>,
     second: SizedTy<'a>,
-) -> Result<SizedTy<'a>, Fault>
+) -> Result<SizedTy<'a>, AllocError>
     requires first { IsSized widths first }
     requires second { IsSized widths second }
     ensures pair { IfOk result (λ sized. ty_of sized.ty ≡ PairTy (ty_of first.entry.ty) (ty_of second.entry.ty)) }

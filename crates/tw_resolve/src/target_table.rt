@@ -9,7 +9,6 @@ ghost use Rattle.tw_resolve.specs.Entries.{IsKeyed, targets_in};
 use indexmap::IndexMap;
 use std::alloc::{AllocError, Global};
 use tw_syntax::{Written, WrittenKind};
-use tw_text::{Arena, Fault};
 use tw_types::TargetId;
 
 /// The targets of pointers, each by its printed form, in the order in which they were first seen.
@@ -30,8 +29,8 @@ impl<'a> TargetTable<'a> {
         }
     }
 
-    /// The number of the target that is written as this one.
-    pub fn number_of(&self, alloc: Global, to: &Written) -> Result<Option<TargetId>, Fault>
+    /// The number of the target that is written as this one. An error: out of memory.
+    pub fn number_of(&self, alloc: Global, to: &Written) -> Result<Option<TargetId>, AllocError>
         ensures { IfOk result (λ number. option_map (λ id. id.0) number ≡ target_number (targets_in self.now.table.entries) (written_tree to.now)) }
     {
         let text = printed(alloc, to)?;

@@ -9,9 +9,9 @@ ghost use Rattle.tw_resolve.specs.Tables.{setting_in};
 
 use crate::sizes::{SizedTy, pair};
 use crate::tables::Tables;
-use std::alloc::Global;
+use std::alloc::{AllocError, Global};
 use tw_syntax::{Written, WrittenKind};
-use tw_text::{Arena, Fault};
+use tw_text::Arena;
 use tw_types::Ty;
 
 /// Whether each name in a written type is declared.
@@ -30,12 +30,12 @@ fn names_declared(tables: &Tables<'_>, written: &Written) -> bool
     }
 }
 
-/// The type of a pointer to a target. `None` if a name in the target is not declared.
+/// The type of a pointer to a target. `None` if a name in the target is not declared. An error: out of memory.
 pub fn pointer_to<'a>(
     alloc: Global,
     tables: &Tables<'a>,
     to: &Written,
-) -> Result<Option<Ty<'a>>, Fault>
+) -> Result<Option<Ty<'a>>, AllocError>
     ensures { IfOk result (λ found. option_map ty_of found ≡ pointer_to (setting_in tables.now).scope (written_tree to.now)) }
 {
     if !names_declared(tables, to) {
@@ -58,13 +58,13 @@ fn simple<'a>(ty: Ty<'a>, extent: u32) -> SizedTy<'a>
     }
 }
 
-/// The type that a written type denotes, with its sizes. `None` if it denotes none.
+/// The type that a written type denotes, with its sizes. `None` if it denotes none. An error: out of memory.
 pub fn type_of<'a>(
     alloc: Global,
     arena: &'a Arena,
     tables: &Tables<'a>,
     written: &Written<'a>,
-) -> Result<Option<SizedTy<'a>>, Fault>
+) -> Result<Option<SizedTy<'a>>, AllocError>
     ensures found { IfOk result (λ found. option_map (λ sized. ty_of sized.ty) found ≡ type_of (setting_in tables.now) (written_tree written.now)) }
     ensures sizes { IfOk result (λ found. IfSome found (IsSized tables.now.types.widths)) }
 {
