@@ -3,3 +3,13 @@ pub mod Denoting
 pub mod Each
 pub mod Entries
 pub mod Refusals
+pub mod Searching
+pub mod Finishing
+pub mod Inserting
+pub mod Opening
+pub mod Reaching
+pub mod Running
+pub mod Stacks
+pub mod Steps
+pub mod TextOrder
+pub mod Visiting

@@ -9,3 +9,6 @@ pub mod Programs
 pub mod Sizes
 pub mod Entries
 pub mod Tables
+pub mod AliasTypes
+pub mod Searches
+pub mod Reaching
