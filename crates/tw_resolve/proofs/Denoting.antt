@@ -95,7 +95,7 @@ body_of_same declared name other body last same is is2 =
     cc (equal, is, is2)
 
 -- one alias leads to a third by way of a second
-reaches_by : {declared : Name → Option WrittenTree} {name middle last : Name} → Reaches declared name middle → Reaches declared middle last → Reaches declared name last
+pub reaches_by : {declared : Name → Option WrittenTree} {name middle last : Name} → Reaches declared name middle → Reaches declared middle last → Reaches declared name last
 reaches_by (ReachesNext body is names) on = ReachesOn body is names on
 reaches_by (ReachesOn body is names first) on = ReachesOn body is names (reaches_by first on)
 

@@ -12,3 +12,13 @@ pub mod Collecting
 pub mod Numbered
 pub mod NameRules
 pub mod Resolving
+pub mod Searching
+pub mod Finishing
+pub mod Inserting
+pub mod Opening
+pub mod Reaching
+pub mod Running
+pub mod Stacks
+pub mod Steps
+pub mod TextOrder
+pub mod Visiting

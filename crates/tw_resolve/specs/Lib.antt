@@ -12,3 +12,5 @@ pub mod Tables
 pub mod Collects
 pub mod AliasTypes
 pub mod Variables
+pub mod Searches
+pub mod Reaching

@@ -2,6 +2,7 @@
 //! The definitions of `specs/` say what each rule demands, and `proofs/` has their laws.
 #![tactic(auto)]
 
+mod alias_search;
 mod alias_table;
 mod atoms;
 mod declare;
@@ -10,6 +11,9 @@ mod fun_table;
 mod names;
 mod paths;
 mod resolved;
+mod alias_types;
+mod name_set;
+mod recursion;
 mod sizes;
 mod tables;
 mod target_table;
@@ -20,4 +24,5 @@ mod type_table;
 mod variables;
 mod written;
 
+pub use alias_types::declare_types;
 pub use demand::need;
