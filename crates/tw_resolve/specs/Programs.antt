@@ -26,7 +26,7 @@ abbrev pub param_rules : Setting → List Name → List ParamTree → List Deman
 param_rules setting earlier [] = []
 param_rules setting earlier (param ∷ params) =
     demand rule.DuplicateName param.name.at (not (is_one_of param.name.text earlier))
-    ∷ (written_rules setting param.ty ++ param_rules setting (param.name.text ∷ earlier) params)
+    ∷ (written_rules setting param.ty ++ param_rules setting (earlier ++ param.name.text ∷ []) params)
 
 -- the variables where the body begins: the parameters
 abbrev pub param_variables : Setting → List ParamTree → Variables
