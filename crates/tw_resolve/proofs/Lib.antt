@@ -3,6 +3,7 @@ pub mod Demands
 pub mod Denoting
 pub mod Each
 pub mod Entries
+pub mod Naming
 pub mod Parts
 pub mod Refusals
 pub mod Trying

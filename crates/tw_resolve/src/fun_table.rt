@@ -12,7 +12,7 @@ use tw_syntax::Fun;
 /// The functions by name, in text order.
 #[derive(Drop)]
 pub struct FunTable<'a> {
-    table: IndexMap<&'a str, &'a Fun<'a>>,
+    pub table: IndexMap<&'a str, &'a Fun<'a>>,
     ghost keyed: { AllByRecursion IsNamed table.entries } by { Prim.hlevel props },
 }
 

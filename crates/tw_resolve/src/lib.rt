@@ -4,8 +4,11 @@
 
 mod alias_table;
 mod atoms;
+mod calls;
 mod demand;
+mod expressions;
 mod fun_table;
+mod name_set;
 mod paths;
 mod sizes;
 mod tables;
