@@ -10,3 +10,4 @@ pub mod Sizes
 pub mod Entries
 pub mod Tables
 pub mod Variables
+pub mod Checked
