@@ -7,3 +7,4 @@ pub mod Naming
 pub mod Parts
 pub mod Refusals
 pub mod Trying
+pub mod Walking

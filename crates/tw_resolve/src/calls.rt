@@ -1,5 +1,5 @@
 //! The rules of calls.
-ghost use Rattle.std.specs.Prelude.{◌≡◌, ◌++◌, ◌∷◌, [], IfOk, OnOk, drop, map, option_map, slice_get};
+ghost use Rattle.std.specs.Prelude.{◌≡◌, ◌++◌, ◌∷◌, [], IfOk, OnOk, drop, map, option_and_then, option_map, slice_get};
 ghost use Rattle.tw_syntax.specs.Names.{name_tree};
 ghost use Rattle.tw_syntax.specs.Programs.{fun_tree, param_tree};
 ghost use Rattle.tw_syntax.specs.Terms.{bound_tree};
@@ -108,6 +108,21 @@ pub fn ty_of_written<'a>(
 {
     match type_of(alloc, arena, tables, written)? {
         Some(sized) => Ok(Some(sized.ty)),
+        None => Ok(None),
+    }
+}
+
+/// The type of the result of the function of this name, if it is there and known. An error: out of memory.
+pub fn result_of<'a>(
+    alloc: Global,
+    arena: &'a Arena,
+    tables: &Tables<'a>,
+    name: &str,
+) -> Result<Option<Ty<'a>>, AllocError>
+    ensures { IfOk result (λ found. option_map ty_of found ≡ option_and_then (λ fun. type_of (setting_in tables.now) fun.result) (fun_named (setting_in tables.now) name.now)) }
+{
+    match fun_named(tables, name) {
+        Some(fun) => ty_of_written(alloc, arena, tables, fun.result),
         None => Ok(None),
     }
 }

@@ -11,6 +11,7 @@ mod fun_table;
 mod name_set;
 mod paths;
 mod sizes;
+mod statements;
 mod tables;
 mod target_table;
 mod ty_sizes;
