@@ -2,15 +2,12 @@
 use denote.Bor.{Bor}
 use Rattle.std.proofs.Math.Path.{fun_ext}
 use Rattle.std.proofs.Common.{◌≡◌, ◌∙◌, ap, sym, refl, ℕ, Bool, true, false, cond, if◌then◌else◌, List, Option, Some, None, is_some, option_map, bytes_eq}
-use Rattle.std.specs.Map.{lookup}
 use Rattle.std.proofs.lemmas.Bool.Decides.{same_from_decides}
 use Rattle.std.proofs.lemmas.Slice.Eq.{bytes_eq-Decides}
 use Rattle.tw_types.specs.declared.types.Ty as ty
-use Rattle.tw_types.specs.Types.{Ty}
 use Rattle.tw_types.specs.FromCode.{ty_of}
 use Rattle.tw_resolve.specs.Declarations.{Name}
 use Rattle.tw_resolve.specs.Entries.{found}
-use Rattle.tw_resolve.specs.Expressions.{Variables}
 use Rattle.tw_resolve.specs.Statements.{with_variable}
 use Rattle.tw_resolve.specs.Variables.{variables_in}
 

@@ -1,6 +1,6 @@
 -- The names in sets, and the parameters that are left.
 use denote.Bor.{Bor}
-use Rattle.std.proofs.Common.{◌≡◌, ◌∙◌, ◌<◌, ◌++◌, length, get_or, Option, Result, Ok, Err, sym, ap, add-one, refl, ℕ, zero, suc, ◌+◌, Bool, true, false, cond, ◌||◌, List, [], ◌∷◌, map, drop, bytes_eq}
+use Rattle.std.proofs.Common.{◌≡◌, ◌∙◌, ◌<◌, ◌++◌, length, get_or, Option, Result, Ok, Err, sym, ap, add-one, refl, ℕ, zero, suc, ◌+◌, ◌||◌, List, [], ◌∷◌, map, drop, bytes_eq}
 use Rattle.std.specs.List.{list_any}
 use Rattle.std.specs.Result.{IsErrAnd}
 use Rattle.std.proofs.lemmas.List.{at_drop_more}

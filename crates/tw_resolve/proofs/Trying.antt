@@ -1,10 +1,10 @@
 -- Calls that try demands one after the other.
-use Rattle.std.proofs.Common.{◌≡◌, Bool, true, false, if◌then◌else◌, List, [], ◌∷◌, ◌++◌, Option, Some, None, Result, Ok, Err, sym, refl}
+use Rattle.std.proofs.Common.{◌≡◌, List, ◌++◌, Result, Ok, Err, subst}
 use Rattle.std.specs.Result.{IsErrAnd}
 use Rattle.tw_text.specs.declared.refusal.Fault.{Fault}
 use Rattle.tw_text.specs.declared.refusal.Fault.TheVariants as fault
-use Rattle.tw_text.specs.declared.refusal.Refusal.{Refusal}
 use Rattle.tw_resolve.specs.Demands.{Demand, first_broken, IsReported, Tries}
+use Rattle.tw_resolve.specs.Expressions.{Variables}
 use Rattle.tw_resolve.proofs.Demands.{first_broken-after_none, first_broken-before}
 
 -- what a fault reports of demands, it reports of these and more
@@ -43,5 +43,9 @@ out_of_memory xs (Ok x) is = absurd is
 -- the same demands decide
 pub tries_same : {A : Type 0} (xs ys : List Demand) (result : Result A Fault) → first_broken xs ≡ first_broken ys → Tries ys result → Tries xs result
 tries_same xs ys result same tries = record { kept = rw same tries.kept; reported = rw same tries.reported }
+
+-- the same rules of equal variables
+pub tries_at : {A : Type 0} (rules : Variables → List Demand) (old new : Variables) (result : Result A Fault) → old ≡ new → Tries (rules old) result → Tries (rules new) result
+tries_at rules old new result same tries = subst (λ (v : Variables). Tries (rules v) result) same tries
 
 pub ruleset trying = (stopped, then_tried, both_tried, out_of_memory)

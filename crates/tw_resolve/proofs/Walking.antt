@@ -1,22 +1,21 @@
 -- Checks of statements, one after the other.
-use Rattle.std.proofs.Common.{◌≡◌, ◌∙◌, ◌<◌, ◌+◌, ap, sym, refl, ℕ, Bool, true, false, if◌then◌else◌, List, ◌++◌, drop, length, get_or, Option, Some, Result, Ok, Err, OnOk}
+use Rattle.std.proofs.Common.{◌≡◌, ◌∙◌, ◌<◌, ◌+◌, ap, sym, ℕ, List, drop, length, get_or, Some, Result, Ok, Err}
 use Rattle.std.specs.Result.{IsErrAnd}
 use Rattle.std.proofs.lemmas.List.{at_drop_more}
 use Rattle.tw_text.specs.declared.place.Pos.{Pos}
 use Rattle.tw_text.specs.declared.refusal.Fault.{Fault}
 use Rattle.tw_syntax.specs.declared.statement.Stmt.{Stmt}
-use Rattle.tw_syntax.specs.Names.{NameTree, PathTree}
+use Rattle.tw_syntax.specs.Names.{PathTree}
 use Rattle.tw_syntax.specs.Programs.{FunTree}
-use Rattle.tw_syntax.specs.Statements.{StmtTree, Then, LetStmt, IfStmt, WithStmt, stmt_tree, stmts_tree}
-use Rattle.tw_syntax.specs.Terms.{RhsTree}
-use Rattle.tw_types.specs.Types.{Ty, Boolean}
+use Rattle.tw_syntax.specs.Statements.{StmtTree, Then, IfStmt, WithStmt, stmt_tree, stmts_tree}
+use Rattle.tw_types.specs.Types.{Boolean}
 use Rattle.tw_resolve.specs.Checked.{TriesInto, Checks}
 use Rattle.tw_resolve.specs.Demands.{Demand, first_broken, Tries}
 use Rattle.tw_resolve.specs.Setting.{Setting}
-use Rattle.tw_resolve.specs.Expressions.{Variables, path_rules, rhs_type}
-use Rattle.tw_resolve.specs.Statements.{variables_after, stmt_rules, with_variable}
+use Rattle.tw_resolve.specs.Expressions.{Variables, path_rules}
+use Rattle.tw_resolve.specs.Statements.{variables_after, stmt_rules}
 use Rattle.tw_resolve.proofs.Demands.{first_broken-after_none}
-use Rattle.tw_resolve.proofs.Trying.{stopped, stopped_alone, then_tried, tries_same}
+use Rattle.tw_resolve.proofs.Trying.{stopped, then_tried, tries_same}
 
 -- a check that stops leaves any variables
 into_err : {A : Type 0} (demands : List Demand) (wanted new : Variables) (result : Result A Fault) (fault : Fault)

@@ -8,6 +8,7 @@ mod calls;
 mod demand;
 mod expressions;
 mod fun_table;
+mod functions;
 mod name_set;
 mod paths;
 mod sizes;
@@ -17,6 +18,7 @@ mod target_table;
 mod ty_sizes;
 mod type_rules;
 mod type_table;
+mod typing;
 mod variables;
 mod written;
 
