@@ -1,8 +1,11 @@
+pub mod AtPlaces
 pub mod Declaring
 pub mod Demands
 pub mod Denoting
 pub mod Each
 pub mod Entries
+pub mod Naming
+pub mod Parameters
 pub mod Parts
 pub mod Refusals
 pub mod Trying
@@ -22,3 +25,4 @@ pub mod Stacks
 pub mod Steps
 pub mod TextOrder
 pub mod Visiting
+pub mod Walking

@@ -140,26 +140,38 @@ next_params [] = []
 next_params (param ∷ params) = params
 
 -- an argument is a variable, occurs once, and has the type of its parameter
-abbrev pub arg_rules : Setting → Variables → List Name → List ParamTree → List NameTree → List Demand
-arg_rules setting variables earlier params [] = []
-arg_rules setting variables earlier params (arg ∷ args) =
+abbrev pub arg_rules : Variables → List Name → Option Ty → NameTree → List Demand
+arg_rules variables earlier needed arg =
     demand rule.UnknownName arg.at (is_some (variables arg.text))
     ∷ demand rule.RepeatedArgument arg.at (not (is_one_of arg.text earlier))
-    ∷ demand rule.TypeMismatch arg.at (fits (param_type setting params) (variables arg.text))
-    ∷ arg_rules setting variables (arg.text ∷ earlier) (next_params params) args
+    ∷ demand rule.TypeMismatch arg.at (fits needed (variables arg.text))
+    ∷ []
+
+-- the rules of arguments, after these names
+abbrev pub args_rules : Setting → Variables → List Name → List ParamTree → List NameTree → List Demand
+args_rules setting variables earlier params [] = []
+args_rules setting variables earlier params (arg ∷ args) =
+    arg_rules variables earlier (param_type setting params) arg
+    ++ args_rules setting variables (earlier ++ arg.text ∷ []) (next_params params) args
 
 -- the parameters of the callee; none if it is not there
 abbrev pub params_of : Option FunTree → List ParamTree
 params_of None = []
 params_of (Some fun) = fun.params
 
--- the callee is there, may be called, and has such a bound and so many arguments; then the bound, and then the arguments
-abbrev pub call_rules : Setting → ℕ → FunTree → Variables → NameTree → Option BoundTree → List NameTree → List Demand
-call_rules setting number caller variables callee bound args =
+-- the callee is there, may be called, and has such a bound and so many arguments
+abbrev pub callee_rules : Setting → ℕ → FunTree → NameTree → Option BoundTree → List NameTree → List Demand
+callee_rules setting number caller callee bound args =
     demand rule.UnknownName callee.at (is_some (number_of setting.funs callee.text))
     ∷ demand rule.CallOrder callee.at (if_there (number_of setting.funs callee.text) (λ other. may_call number other (is_smaller caller bound)))
     ∷ demand rule.BadCall callee.at (if_there (fun_named setting callee.text) (matches_declared bound args))
-    ∷ (bound_rules caller bound ++ arg_rules setting variables [] (params_of (fun_named setting callee.text)) args)
+    ∷ []
+
+-- the rules of a call: those of the callee, then the bound, and then the arguments
+abbrev pub call_rules : Setting → ℕ → FunTree → Variables → NameTree → Option BoundTree → List NameTree → List Demand
+call_rules setting number caller variables callee bound args =
+    callee_rules setting number caller callee bound args
+    ++ (bound_rules caller bound ++ args_rules setting variables [] (params_of (fun_named setting callee.text)) args)
 
 -- the rules of a right side in the function of this number
 abbrev pub rhs_rules : Setting → ℕ → FunTree → Variables → RhsTree → List Demand

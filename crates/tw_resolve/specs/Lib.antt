@@ -14,3 +14,4 @@ pub mod AliasTypes
 pub mod Variables
 pub mod Searches
 pub mod Reaching
+pub mod Checked

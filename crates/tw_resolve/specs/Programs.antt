@@ -23,12 +23,16 @@ use Rattle.tw_resolve.specs.Statements.{variables_after, stmt_rules}
 abbrev pub alias_rules : Setting → AliasTree → List Demand
 alias_rules setting alias = size_rules setting alias.name.at (type_of setting alias.body) ++ part_rules setting alias.body
 
--- parameters have different names, and their types keep the rules
-abbrev pub param_rules : Setting → List Name → List ParamTree → List Demand
-param_rules setting earlier [] = []
-param_rules setting earlier (param ∷ params) =
-    demand rule.DuplicateName param.name.at (not (is_one_of param.name.text earlier))
-    ∷ (written_rules setting param.ty ++ param_rules setting (param.name.text ∷ earlier) params)
+-- a parameter has another name than those before it, and its type keeps the rules
+abbrev pub param_rules : Setting → List Name → ParamTree → List Demand
+param_rules setting earlier param =
+    demand rule.DuplicateName param.name.at (not (is_one_of param.name.text earlier)) ∷ written_rules setting param.ty
+
+-- the rules of parameters, after these names
+abbrev pub params_rules : Setting → List Name → List ParamTree → List Demand
+params_rules setting earlier [] = []
+params_rules setting earlier (param ∷ params) =
+    param_rules setting earlier param ++ params_rules setting (earlier ++ param.name.text ∷ []) params
 
 -- the variables where the body begins: the parameters
 abbrev pub param_variables : Setting → List ParamTree → Variables
@@ -51,7 +55,7 @@ end_variables setting fun = variables_after setting (param_variables setting fun
 -- the rules of the function of this number, in text order
 abbrev pub fun_rules : Setting → ℕ → FunTree → List Demand
 fun_rules setting number fun =
-    param_rules setting [] fun.params
+    params_rules setting [] fun.params
     ++ (written_rules setting fun.result
     ++ (stmt_rules setting number fun (param_variables setting fun.params) fun.body
     ++ return_rules setting fun (end_variables setting fun)))

@@ -2,7 +2,8 @@
 use Rattle.std.specs.Prelude.{ℕ, Bool, true, false, if◌then◌else◌, List, [], ◌∷◌, ◌++◌, Option, Some, None, is_some}
 use Rattle.std.specs.Str.{bytes_eq}
 use Rattle.tw_text.specs.declared.refusal.Rule.TheVariants as rule
-use Rattle.tw_syntax.specs.Names.{NameTree}
+use Rattle.tw_syntax.specs.Names.{NameTree, PathTree}
+use Rattle.tw_syntax.specs.Terms.{RhsTree}
 use Rattle.tw_syntax.specs.Programs.{FunTree}
 use Rattle.tw_syntax.specs.Statements.{StmtTree, Nothing, Then, Else, LetStmt, SwapStmt, MemSwapStmt, IfStmt, WithStmt, BlockStmt, SkipStmt}
 use Rattle.tw_types.specs.Types.{Ty, Boolean, Pointer}
@@ -40,6 +41,24 @@ abbrev pub target_rules : Variables → Bool → NameTree → List Demand
 target_rules variables true target = []
 target_rules variables false target = demand rule.UnknownName target.at (is_some (variables target.text)) ∷ []
 
+-- the target, the right side, and then whether the target keeps its type
+abbrev pub let_rules : Setting → ℕ → FunTree → Variables → Bool → NameTree → RhsTree → List Demand
+let_rules setting number fun variables forward target rhs =
+    target_rules variables forward target
+    ++ (rhs_rules setting number fun variables rhs
+    ++ demand rule.TypeChanged target.at (fits (variables target.text) (rhs_type setting variables rhs)) ∷ [])
+
+-- two paths have one type
+abbrev pub swap_rules : Variables → PathTree → PathTree → List Demand
+swap_rules variables left right = path_rules variables None left ++ path_rules variables (path_type variables left) right
+
+-- a path leads to a pointer, and another one has the type that it points to
+abbrev pub mem_swap_rules : Setting → Variables → PathTree → PathTree → List Demand
+mem_swap_rules setting variables pointer value =
+    path_rules variables None pointer
+    ++ (demand rule.TypeMismatch pointer.root.at (if_there (path_type variables pointer) is_pointer)
+    ∷ path_rules variables (pointee setting (path_type variables pointer)) value)
+
 -- the rules of a statement in the function of this number, from variables
 abbrev pub stmt_rules : Setting → ℕ → FunTree → Variables → StmtTree → List Demand
 stmt_rules setting number fun variables Nothing = []
@@ -47,16 +66,9 @@ stmt_rules setting number fun variables (Then first rest) =
     stmt_rules setting number fun variables first
     ++ stmt_rules setting number fun (variables_after setting variables first) rest
 stmt_rules setting number fun variables (Else at stmts) = stmt_rules setting number fun variables stmts
-stmt_rules setting number fun variables (LetStmt at forward target rhs) =
-    target_rules variables forward target
-    ++ (rhs_rules setting number fun variables rhs
-    ++ demand rule.TypeChanged target.at (fits (variables target.text) (rhs_type setting variables rhs)) ∷ [])
-stmt_rules setting number fun variables (SwapStmt at left right) =
-    path_rules variables None left ++ path_rules variables (path_type variables left) right
-stmt_rules setting number fun variables (MemSwapStmt at pointer value) =
-    path_rules variables None pointer
-    ++ (demand rule.TypeMismatch pointer.root.at (if_there (path_type variables pointer) is_pointer)
-    ∷ path_rules variables (pointee setting (path_type variables pointer)) value)
+stmt_rules setting number fun variables (LetStmt at forward target rhs) = let_rules setting number fun variables forward target rhs
+stmt_rules setting number fun variables (SwapStmt at left right) = swap_rules variables left right
+stmt_rules setting number fun variables (MemSwapStmt at pointer value) = mem_swap_rules setting variables pointer value
 stmt_rules setting number fun variables (IfStmt at cond first other) =
     path_rules variables (Some Boolean) cond
     ++ (stmt_rules setting number fun variables first

@@ -4,25 +4,32 @@
 
 mod alias_search;
 mod alias_table;
+mod alias_types;
 mod atoms;
+mod calls;
 mod declare;
 mod demand;
+mod expressions;
 mod fun_table;
-mod names;
-mod paths;
-mod resolved;
-mod alias_types;
+mod functions;
 mod name_set;
+mod names;
+mod names_so_far;
+mod paths;
 mod recursion;
+mod resolved;
 mod sizes;
+mod statements;
 mod tables;
 mod target_table;
 mod targets;
+#[cfg(test)]
+mod tests;
 mod ty_sizes;
 mod type_rules;
 mod type_table;
+mod typing;
 mod variables;
 mod written;
 
-pub use alias_types::declare_types;
 pub use demand::need;

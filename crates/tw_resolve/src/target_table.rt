@@ -15,7 +15,7 @@ use tw_types::TargetId;
 /// The targets of pointers, each by its printed form, in the order in which they were first seen.
 #[derive(Drop)]
 pub struct TargetTable<'a> {
-    table: IndexMap<&'a str, &'a Written<'a>>,
+    pub table: IndexMap<&'a str, &'a Written<'a>>,
     ghost keyed: { AllByRecursion IsTarget table.entries } by { Prim.hlevel props },
     ghost few: { length table.entries ≤ 4294967295 },
 }

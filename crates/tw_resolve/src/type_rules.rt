@@ -1,11 +1,12 @@
 //! The rules of written types: the sizes of types, and the names in them.
-ghost use Rattle.std.specs.Prelude.{◌≡◌, [], ◌∷◌, IfSome, option_map};
+ghost use Rattle.std.specs.Prelude.{◌≡◌, ◌<◌, [], ◌∷◌, Some, length, flat_map, option_map, slice_get, IfSome};
 ghost use Rattle.tw_syntax.specs.Types.{written_place, written_tree};
 ghost use Rattle.tw_syntax.specs.Programs.{alias_tree};
 ghost use Rattle.tw_types.specs.FromCode.{ty_of};
 ghost use Rattle.tw_resolve.specs.Demands.{Tries, demand_within};
 ghost use Rattle.tw_resolve.specs.Setting.{type_of, size_rules, part_rules, written_rules};
 ghost use Rattle.tw_resolve.specs.Programs.{alias_rules};
+ghost use Rattle.tw_resolve.specs.Entries.{aliases_in};
 ghost use Rattle.tw_resolve.specs.Sizes.{IsSized};
 ghost use Rattle.tw_resolve.specs.Tables.{setting_in};
 
@@ -134,4 +135,22 @@ fn check_alias<'a>(
         type_of(alloc, arena, tables, alias.body)?,
     )?;
     check_parts(alloc, arena, tables, alias.body)
+}
+
+/// The alias at this place. There are more aliases.
+fn alias_at<'a>(tables: &Tables<'a>, place: usize) -> &'a Alias<'a>
+    requires { place < length (aliases_in tables.now.aliases.table.entries) }
+    ensures { slice_get (aliases_in tables.now.aliases.table.entries) place ≡ Some (alias_tree result.now) }
+{
+    tables.aliases.table[place]
+}
+
+/// All aliases keep the rules of types.
+pub fn check_aliases<'a>(alloc: Global, arena: &'a Arena, tables: &Tables<'a>) -> Result<(), Fault>
+    ensures { Tries (flat_map (alias_rules (setting_in tables.now)) (aliases_in tables.now.aliases.table.entries)) result }
+{
+    for place in 0..tables.aliases.table.len() {
+        check_alias(alloc, arena, tables, alias_at(tables, place))?;
+    }
+    Ok(())
 }
