@@ -15,9 +15,11 @@ returns-in_err-text g c =
 pub returns-else-is_empty : goal.returns-else-is_empty
 returns-else-is_empty g c =
     let found = c.in_ok-text.ensures.file in
-    rw (c.wrong_after.ensures)
-    (OnPrefix found.0 c.in_ok-text.text.rest.now found.1
-    (GoesOn (some c.in_ok-text.text.rest.now (sym c.is_empty.ensures ∙ c.if-is_empty.false)) (ap (λ (n : ℕ). Refuses (diagnostic.BadGateText (n + 7))) found.2.gates)), refl)
+    rw (c.wrong_after.ensures) (
+      OnPrefix found.0 c.in_ok-text.text.rest.now found.1
+          (GoesOn (some c.in_ok-text.text.rest.now (sym c.is_empty.ensures ∙ c.if-is_empty.false)) (ap (λ (n : ℕ). Refuses (diagnostic.BadGateText (n + 7))) found.2.gates)),
+      refl,
+    )
 
 pub returns-in_err-write_inverse : goal.returns-in_err-write_inverse
 returns-in_err-write_inverse g c =
