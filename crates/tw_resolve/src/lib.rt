@@ -18,6 +18,8 @@ mod sizes;
 mod tables;
 mod target_table;
 mod targets;
+#[cfg(test)]
+mod tests;
 mod ty_sizes;
 mod type_rules;
 mod type_table;
