@@ -10,7 +10,7 @@ use Rattle.tw_resolve.specs.declared.tables.Tables.{Tables}
 use Rattle.tw_resolve.specs.declared.target_table.TargetTable.{TargetTable}
 use Rattle.tw_resolve.specs.Declarations.{Name, declared_as}
 use Rattle.tw_resolve.specs.Denotes.{Scope}
-use Rattle.tw_resolve.specs.Entries.{aliases_in, targets_in}
+use Rattle.tw_resolve.specs.Entries.{aliases_in, table_targets}
 use Rattle.tw_resolve.specs.Tables.{setting_in}
 use Rattle.tw_resolve.specs.AliasTypes.{AreDenoted, AreResolvedIn, IsResolvedAlias, KeepsNames}
 use Rattle.tw_resolve.specs.Searches.{Finish, names_in, tasks_in, IsFinding, IsSearching, Finishes}
@@ -27,7 +27,7 @@ kept_twice one two = record {
 }
 
 abbrev scope_at : AliasTable → TargetTable → Scope
-scope_at aliases targets = record { declared = declared_as (aliases_in aliases.table.entries); targets = targets_in targets.table.entries }
+scope_at aliases targets = record { declared = declared_as (aliases_in aliases.table.entries); targets = table_targets targets.table.entries }
 
 -- what holds of the declared names stays
 in_kept : (old new : Tables) → KeepsNames old new → (P : AliasTable → TargetTable → Type 0) → P old.aliases old.targets → P new.aliases new.targets
