@@ -1,5 +1,5 @@
 -- Functions of declarations that are checked one after the other.
-use Rattle.std.proofs.Common.{◌≡◌, ◌∙◌, ◌<◌, ◌+◌, ℕ, List, [], ◌∷◌, ◌++◌, map, drop, get_or, length, Option, Some, None, ap, sym, subst, refl, append-nil}
+use Rattle.std.proofs.Common.{◌≡◌, ◌∙◌, ◌<◌, ◌+◌, ℕ, List, [], ◌∷◌, ◌++◌, map, drop, get_or, length, Option, None, ap, sym, subst, refl, append-nil}
 use Rattle.std.proofs.lemmas.List.{drop_more}
 use Rattle.tw_text.specs.declared.refusal.Fault.{Fault}
 use Rattle.tw_text.specs.declared.refusal.Refusal.{Refusal}
@@ -41,4 +41,4 @@ pub checked_until : (decls : List Decl) (i : ℕ) (item d : Decl) (why : Fault) 
     → IsReported (first_broken (decls_rules (map decl_tree decls))) why
 checked_until decls i item d why inside is now reported =
     subst (λ (broken : Option Refusal). IsReported broken why) (sym (now.tried ∙ rest_there decls i item d inside is))
-        (reported_before (decls_rules (decl_tree item ∷ [])) (decls_rules (map decl_tree (drop (i + 1) decls))) why reported)
+    (reported_before (decls_rules (decl_tree item ∷ [])) (decls_rules (map decl_tree (drop (i + 1) decls))) why reported)

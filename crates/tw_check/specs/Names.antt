@@ -1,6 +1,6 @@
 -- Sets of names.
 pub use Rattle.tw_resolve.specs.Declarations.{is_one_of}
-use Rattle.std.specs.Prelude.{◌≡◌, ℕ, Bool, true, false, ◌&&◌, ◌||◌, if◌then◌else◌, List, [], ◌∷◌, codes, refl}
+use Rattle.std.specs.Prelude.{◌≡◌, ℕ, Bool, true, false, ◌&&◌, if◌then◌else◌, List, [], ◌∷◌, codes, refl}
 use Rattle.std.proofs.Math.Bool.{beq}
 use Rattle.std.specs.Str.{bytes_eq}
 

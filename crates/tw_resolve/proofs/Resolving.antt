@@ -1,25 +1,22 @@
 -- What the passes find together: a well-typed program, or its refusal.
-use Rattle.std.proofs.Common.{◌≡◌, ◌∙◌, List, ◌++◌, flat_map, Option, None, ap, sym, subst, subst₂}
+use Rattle.std.proofs.Common.{refl, Result, Ok, Err, IfErr, IsErrAnd, ◌≡◌, ◌∙◌, List, None, ap, sym, subst, subst₂}
 use Rattle.std.specs.List.{AllByRecursion}
 use Rattle.tw_text.specs.declared.refusal.Fault.{Fault}
 use Rattle.tw_text.specs.declared.refusal.Fault.TheVariants as fault
-use Rattle.tw_text.specs.declared.refusal.Refusal.{Refusal}
 use Rattle.tw_syntax.specs.Programs.{AliasTree, ProgramTree}
 use Rattle.tw_types.specs.Types.{Widths}
 use Rattle.tw_resolve.specs.AliasTypes.{IsResolvedAlias, AreResolvedIn, IsRecursionFaultIn, KeepsNames}
 use Rattle.tw_resolve.specs.Declarations.{aliases_of, declared_as}
-use Rattle.tw_resolve.specs.Demands.{Demand, first_broken, IsReported}
+use Rattle.tw_resolve.specs.Demands.{first_broken, IsReported}
 use Rattle.tw_resolve.specs.Denotes.{AreTypes, Scope, scope_of}
 use Rattle.tw_resolve.specs.Entries.{aliases_in, table_targets, funs_in, types_in}
 use Rattle.tw_resolve.specs.Names.{name_rules}
-use Rattle.tw_resolve.specs.Programs.{IsFinite, IsFirstRecursive, IsTyped, IsRefused, BreaksNames, BreaksFinite, BreaksTypes, IsRefusedWith, alias_rules, funs_rules, type_rules, setting_of}
+use Rattle.tw_resolve.specs.Programs.{IsFinite, IsFirstRecursive, IsTyped, IsRefused, BreaksNames, BreaksFinite, BreaksTypes, IsRefusedWith, type_rules, setting_of}
 use Rattle.tw_resolve.specs.Tables.{AreTablesOf, setting_in}
 use Rattle.tw_resolve.specs.declared.alias_table.AliasTable.{AliasTable}
 use Rattle.tw_resolve.specs.declared.fun_table.FunTable.{FunTable}
 use Rattle.tw_resolve.specs.declared.tables.Tables.{Tables}
 use Rattle.tw_resolve.specs.declared.target_table.TargetTable.{TargetTable}
-use Rattle.tw_resolve.proofs.Demands.{first_broken-after_none}
-use Rattle.tw_resolve.proofs.Ending.{reported_before}
 use Rattle.tw_resolve.proofs.NameRules.{third_holds}
 use Rattle.tw_resolve.proofs.Numbered.{aliases_resolved}
 
@@ -37,13 +34,6 @@ module _ (program : ProgramTree) (widths : Widths) (tables : Tables) (are : AreT
       subst₂ (λ (scope : Scope) (aliases : List AliasTree). AllByRecursion (IsResolvedAlias scope) aliases) (sym same_scope) (sym are.aliases)
       (aliases_resolved program (third_holds program none))
 
-  -- the rules of the aliases and of the functions, by the tables
-  abbrev pub in_aliases : List Demand
-  in_aliases = flat_map (alias_rules (setting_in tables)) (aliases_in tables.aliases.table.entries)
-
-  abbrev pub in_funs : List Demand
-  in_funs = funs_rules (setting_in tables) 0 (setting_in tables).funs
-
   -- no alias contains itself, and the table of types is right
   abbrev pub AreFinite : Type 0
   AreFinite = AllByRecursion (IsFinite (setting_in tables).scope.declared) (aliases_in tables.aliases.table.entries)
@@ -52,9 +42,9 @@ module _ (program : ProgramTree) (widths : Widths) (tables : Tables) (are : AreT
   HasTypes = AreTypes (setting_in tables).scope (setting_in tables).types
 
   -- the rules of types by the tables are those of the program
-  pub same_rules : in_aliases ++ in_funs
+  same_rules : type_rules (setting_in tables) (aliases_in tables.aliases.table.entries)
       ≡ type_rules (setting_of widths program (types_in tables.types.table.entries)) (aliases_of program.decls)
-  same_rules = λ j. flat_map (alias_rules (same_setting j)) (are.aliases j) ++ funs_rules (same_setting j) 0 (same_setting j).funs
+  same_rules = λ j. type_rules (same_setting j) (are.aliases j)
 
   finite_in : AreFinite
       → AllByRecursion (IsFinite (declared_as (aliases_of program.decls))) (aliases_of program.decls)
@@ -64,42 +54,23 @@ module _ (program : ProgramTree) (widths : Widths) (tables : Tables) (are : AreT
   types_are types = subst (λ (scope : Scope). AreTypes scope (types_in tables.types.table.entries)) same_scope types
 
   -- all rules hold: the program is well-typed
-  pub is_typed : first_broken (name_rules program) ≡ None
-      → AreFinite
-      → HasTypes
-      → first_broken in_aliases ≡ None
-      → first_broken in_funs ≡ None
+  pub is_typed : first_broken (name_rules program) ≡ None → AreFinite → HasTypes
+      → first_broken (type_rules (setting_in tables) (aliases_in tables.aliases.table.entries)) ≡ None
       → IsTyped widths program (types_in tables.types.table.entries)
-  is_typed names finite types aliases funs = record {
+  is_typed names finite types rules = record {
     names = names;
     finite = finite_in finite;
     are_types = types_are types;
-    typed = sym (ap first_broken same_rules) ∙ first_broken-after_none in_aliases in_funs aliases ∙ funs;
+    typed = sym (ap first_broken same_rules) ∙ rules;
   }
 
   -- a rule of types is broken
-  breaks_types : first_broken (name_rules program) ≡ None
-      → AreFinite
-      → HasTypes
-      → (why : Fault) → IsReported (first_broken (in_aliases ++ in_funs)) why
+  pub breaks_types : first_broken (name_rules program) ≡ None → AreFinite → HasTypes
+      → (why : Fault) → IsReported (first_broken (type_rules (setting_in tables) (aliases_in tables.aliases.table.entries))) why
       → IsRefusedWith widths program why
   breaks_types names finite types (fault.Refused refusal) is =
       BreaksTypes (types_in tables.types.table.entries) names (finite_in finite) (types_are types) (sym (ap first_broken same_rules) ∙ is)
   breaks_types names finite types fault.Memory is = tt
-
-  pub breaks_alias : first_broken (name_rules program) ≡ None
-      → AreFinite
-      → HasTypes
-      → (why : Fault) → IsReported (first_broken in_aliases) why → IsRefusedWith widths program why
-  breaks_alias names finite types why is = breaks_types names finite types why (reported_before in_aliases in_funs why is)
-
-  pub breaks_fun : first_broken (name_rules program) ≡ None
-      → AreFinite
-      → HasTypes
-      → first_broken in_aliases ≡ None
-      → (why : Fault) → IsReported (first_broken in_funs) why → IsRefusedWith widths program why
-  breaks_fun names finite types none why is =
-      breaks_types names finite types why (subst (λ (broken : Option Refusal). IsReported broken why) (sym (first_broken-after_none in_aliases in_funs none)) is)
 
   -- an alias contains itself
   pub breaks_finite : first_broken (name_rules program) ≡ None → (why : Fault) → IsRecursionFaultIn tables why → IsRefusedWith widths program why
@@ -121,3 +92,13 @@ kept_tables program widths old new kept are = record {
 pub breaks_names : (widths : Widths) (program : ProgramTree) (why : Fault) → IsReported (first_broken (name_rules program)) why → IsRefusedWith widths program why
 breaks_names widths program (fault.Refused refusal) is = BreaksNames is
 breaks_names widths program fault.Memory is = tt
+
+-- the tables of a program at some widths are so at their own
+pub at_own_widths : (program : ProgramTree) (widths : Widths) (tables : Tables) → AreTablesOf program widths tables → AreTablesOf program tables.types.widths tables
+at_own_widths program widths tables are = record { aliases = are.aliases; targets = are.targets; funs = are.funs; at_widths = refl }
+
+-- a call that ends with a fault that is the refusal
+pub refused_as : {A : Type 0} (widths : Widths) (program : ProgramTree) (why : Fault) (result : Result A Fault) → IsErrAnd result (λ other. other ≡ why)
+    → IsRefusedWith widths program why → IfErr result (IsRefusedWith widths program)
+refused_as widths program why (Ok x) ends is = tt
+refused_as widths program why (Err other) ends is = subst (IsRefusedWith widths program) (sym ends) is

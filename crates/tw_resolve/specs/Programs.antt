@@ -84,6 +84,10 @@ pub record IsTyped (widths : Widths) (program : ProgramTree) (types : Name → O
   pub are_types : AreTypes (scope_of program) types
   pub typed : first_broken (type_rules (setting_of widths program types) (aliases_of program.decls)) ≡ None
 
+-- the program is well-typed by some table of types; it has only one
+abbrev pub IsWellTyped : Widths → ProgramTree → Type 0
+IsWellTyped widths program = (types : Name → Option Ty) × IsTyped widths program types
+
 -- the first of the aliases that contains itself is the one of this name
 abbrev pub IsFirstRecursive : (Name → Option WrittenTree) → List AliasTree → NameTree → Type 0
 IsFirstRecursive declared [] name = ⊥

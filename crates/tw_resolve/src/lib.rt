@@ -33,3 +33,4 @@ mod variables;
 mod written;
 
 pub use demand::need;
+pub use resolved::{Resolved, resolve};

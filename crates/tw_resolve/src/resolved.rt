@@ -1,11 +1,17 @@
 //! Well-typed programs.
-ghost use Rattle.std.specs.Prelude.{◌≡◌, ◌<◌, length, slice_get, option_map, Some};
-ghost use Rattle.tw_syntax.specs.Programs.{fun_tree, program_tree};
+ghost use Rattle.std.specs.Prelude.{◌≡◌, length, IfOk, OnOk, IfErr};
+ghost use Rattle.tw_syntax.specs.Programs.{program_tree};
 ghost use Rattle.tw_resolve.specs.Declarations.{funs_of, number_of};
+ghost use Rattle.tw_resolve.specs.Programs.{IsWellTyped, IsRefusedWith};
 ghost use Rattle.tw_resolve.specs.Tables.{AreTypedTablesOf};
 
+use crate::alias_types::declare_types;
+use crate::declare::declare;
 use crate::tables::Tables;
-use tw_syntax::{Fun, Program};
+use crate::typing::check_types;
+use std::alloc::Global;
+use tw_syntax::Program;
+use tw_text::{Arena, Fault};
 use tw_types::Widths;
 
 /// A well-typed program at some widths, with its tables.
@@ -18,8 +24,8 @@ pub struct Resolved<'a> {
 
 impl<'a> Resolved<'a> {
     /// The program with these tables, which are those of it, and well-typed.
-    pub fn new(program: &'a Program<'a>, tables: Tables<'a>) -> Resolved<'a>
-        requires typed { ∥ AreTypedTablesOf (program_tree program.now) tables ∥₁ }
+    fn new(program: &'a Program<'a>, tables: Tables<'a>) -> Resolved<'a>
+        requires typed { AreTypedTablesOf (program_tree program.now) tables }
         ensures program { result.program ≡ program.entry }
         ensures widths { result.tables.types.widths ≡ tables.entry.types.widths }
     {
@@ -46,4 +52,24 @@ impl<'a> Resolved<'a> {
     {
         self.tables.funs.number_of(name)
     }
+}
+
+/// Finds the names and types of a program. Refused by the first rule of `docs/RULES.md` on names and types that it breaks: duplicate
+/// names, unknown names and recursion of aliases, their sizes, and then the functions in text order. A fault: refused, or out of memory.
+/// A program that is refused is not well-typed, and has no other refusal.
+pub fn resolve<'a>(
+    alloc: Global,
+    arena: &'a Arena,
+    program: &'a Program<'a>,
+    widths: Widths,
+) -> Result<Resolved<'a>, Fault>
+    ensures program { IfOk result (λ resolved. resolved.program ≡ program.entry) }
+    ensures widths { IfOk result (λ resolved. resolved.tables.types.widths ≡ widths) }
+    ensures typed { OnOk result (∥ IsWellTyped widths (program_tree program.now) ∥₁) }
+    ensures refused { IfErr result (IsRefusedWith widths (program_tree program.now)) }
+{
+    let mut tables = declare(alloc, arena, program, widths)?;
+    declare_types(alloc, arena, &mut tables)?;
+    check_types(alloc, arena, &tables)?;
+    Ok(Resolved::new(program, tables))
 }
