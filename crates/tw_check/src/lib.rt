@@ -13,4 +13,5 @@ mod tests;
 mod variable;
 mod walk;
 
+pub use checked::check_decls;
 pub use function::check_function;

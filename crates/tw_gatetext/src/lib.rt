@@ -1,4 +1,4 @@
-//! Gate files: the text of a file, written to a sink piece by piece without allocation, and read back.
+//! Gate files: the text of a file, written to a sink piece by piece, read back, and inverted without a list of its gates.
 //! `specs/` defines the text of a file, the valid files, the lines that may follow one another, and how bytes that begin with no
 //! file are refused. `proofs/` shows that the text of a file determines it.
 #![tactic(auto)]
