@@ -2,8 +2,8 @@
 use Rattle.std.proofs.Common.{◌≡◌, ◌≢◌, ◌∙◌, ap, sym, ℕ, ◌==◌, ◌<◌, true, false, List, [], ◌∷◌, ◌++◌, length, drop, codes, Option, Some, None, IfSome, Bor, arith, length-drop, refl}
 use Rattle.std.specs.Option.{IfNone, option_copied}
 use Rattle.std.proofs.lemmas.Bool.Decides.{Decides-eqb}
-use Rattle.tw_text.specs.Front.{after}
-use Rattle.tw_text.proofs.Fronts.{after-append, append-after}
+use Rattle.tw_text.specs.Prefix.{after}
+use Rattle.tw_text.proofs.Prefixes.{after-append, append-after}
 use Rattle.tower.specs.Simulate.{HasLines, AtEnd, AtMark, AfterMark}
 
 -- bytes of length 0

@@ -6,7 +6,7 @@ use Rattle.tw_gate.specs.Weight.{t_count}
 use Rattle.tw_gatetext.specs.Valid.{FitsWires, IsValid}
 use Rattle.std.specs.List.{AllByRecursion}
 use Rattle.tw_gatetext.specs.Text.{HasFewControls}
-use Rattle.tw_gatetext.proofs.Bounds.{file_text-tells, few_controls}
+use Rattle.tw_gatetext.proofs.Bounds.{file_text-prefix_free, few_controls}
 use Rattle.tw_types.specs.Types.{Widths}
 use Rattle.tw_state.specs.Programs.{Function}
 use Rattle.tw_state.specs.Typing.{variables_at_end}
@@ -63,7 +63,7 @@ compiled request {function} is booleans few narrow =
     record {
       defined = refl;
       valid = fine;
-      only_file = λ other rest more fits same. (file_text-tells other _ rest more fits fine same).0;
+      only_file = λ other rest more fits same. (file_text-prefix_free other _ rest more fits fine same).0;
       plain = function_gates request.widths [] function;
       plain_file = refl;
       direction = refl;

@@ -7,7 +7,7 @@ use Rattle.tw_syntax.specs.Names.{NameTree}
 use Rattle.tw_syntax.specs.Programs.{FunTree, DeclTree, AliasDecl, FunDecl}
 use Rattle.tw_state.specs.States.{Name}
 use Rattle.tw_state.specs.Programs.{Var, And, Binary, Stmt, Skip, Then, Let, Variable, Function}
-use Rattle.tw_state.specs.FromTrees.{stmt_meant, variable_meant, variables_meant, function_meant}
+use Rattle.tw_state.specs.FromTrees.{stmt_denoted, variable_denoted, variables_denoted, function_denoted}
 use Rattle.tw_lower.specs.Correct.{IsConjunction}
 use Rattle.tower.specs.Form.{Form, is_among, are_different, parameters_of, is_right, boolean, function_of}
 use Rattle.tower.specs.FirstTree.{AreDifferent, IsFirstTree}
@@ -15,7 +15,7 @@ use Rattle.tower.specs.ReadingTree.{is_bool, body_in, parameters_in, is_none, is
 use Rattle.tower.proofs.Binds.{bind_some, some_is}
 use Rattle.tower.proofs.Bools.{and_parts, and_both, found_if, if_found}
 use Rattle.tower.proofs.Conjunctions.{rightness, fresh_from, conjunction}
-use Rattle.tower.proofs.TreesMeant.{bool-meant, body-meant, meant-body, meant-variable, parameters-meant, meant-parameters, meant-whole}
+use Rattle.tower.proofs.TreesDenoted.{bool-denoted, body-denoted, denoted-body, denoted-variable, parameters-denoted, denoted-parameters, denoted-whole}
 
 same_bytes : (x y : List ℕ) → bytes_eq x y ≡ true → x ≡ y
 same_bytes x y e = (bytes_eq-Decides x y).0 e
@@ -83,12 +83,12 @@ main_found fun form found =
 
 -- what is found is the form of the function that the tree denotes
 
-whole : (fun : FunTree) (form : Form) → variables_meant fun.params ≡ Some (map boolean (parameters_of form.first form.second)) → variable_meant fun.returned fun.result ≡ Some (boolean form.result) →
-    stmt_meant fun.body ≡ Some (Then (Let form.result (Binary And (Var form.left) (Var form.right))) Skip) → function_meant fun ≡ Some (function_of form)
+whole : (fun : FunTree) (form : Form) → variables_denoted fun.params ≡ Some (map boolean (parameters_of form.first form.second)) → variable_denoted fun.returned fun.result ≡ Some (boolean form.result) →
+    stmt_denoted fun.body ≡ Some (Then (Let form.result (Binary And (Var form.left) (Var form.right))) Skip) → function_denoted fun ≡ Some (function_of form)
 whole fun form e f g = rw (e, f, g) refl
 
-result-meant : (fun : FunTree) (name : Name) → is_bool fun.result ≡ true → fun.returned.text ≡ name → variable_meant fun.returned fun.result ≡ Some (boolean name)
-result-meant fun name h same = rw (bool-meant fun.result h) (ap (λ (n : Name). Some (boolean n)) same)
+result-denoted : (fun : FunTree) (name : Name) → is_bool fun.result ≡ true → fun.returned.text ≡ name → variable_denoted fun.returned fun.result ≡ Some (boolean name)
+result-denoted fun name h same = rw (bool-denoted fun.result h) (ap (λ (n : Name). Some (boolean n)) same)
 
 first_of : (tree : List DeclTree) (fun : FunTree) (form : Form) → is_main fun ≡ true → Found fun form → IsFirstTree (record { decls = FunDecl fun ∷ [] }) (function_of form)
 first_of tree fun form main found =
@@ -100,7 +100,7 @@ first_of tree fun form main found =
       alone = refl;
       main = same_bytes _ _ parts.0;
       unbounded = is_unbounded fun.bound rest.0;
-      meant = whole fun form (parameters-meant fun.params form.first form.second found.parameters) (result-meant fun form.result rest.1 found.returned) (body-meant fun.body (form.result, form.left, form.right) found.body);
+      denoted = whole fun form (parameters-denoted fun.params form.first form.second found.parameters) (result-denoted fun form.result rest.1 found.returned) (body-denoted fun.body (form.result, form.left, form.right) found.body);
       one_or_two = few form.first form.second;
       different = all_different (parameters_of form.first form.second) right.different;
       left = form.left;
@@ -163,12 +163,12 @@ the_body : (result name left right : Name) → result ≡ name → Then (Let res
 the_body result name left right e = cc
 
 -- what is found in the function of the first form
-complete_fun : (fun : FunTree) (function : Function) (left right : Name) → fun.name.text ≡ codes "main" → fun.bound ≡ None → function_meant fun ≡ Some function → 1 ≤ length function.parameters → length function.parameters ≤ 2 →
+complete_fun : (fun : FunTree) (function : Function) (left right : Name) → fun.name.text ≡ codes "main" → fun.bound ≡ None → function_denoted fun ≡ Some function → 1 ≤ length function.parameters → length function.parameters ≤ 2 →
     AreDifferent function.parameters → IsConjunction function left right → (form : Form) × (form_in_fun fun ≡ Some form)
-complete_fun fun function left right main unbounded meant some few different is =
-    let parts = meant-whole fun function meant in
-    let names = meant-parameters fun.params function.parameters parts.parameters some few in
-    let result = meant-variable fun.returned fun.result function.result parts.result in
+complete_fun fun function left right main unbounded denoted some few different is =
+    let parts = denoted-whole fun function denoted in
+    let names = denoted-parameters fun.params function.parameters parts.parameters some few in
+    let result = denoted-variable fun.returned fun.result function.result parts.result in
     let form : Form = record { first = names.first; second = names.second; result = fun.returned.text; left = left; right = right } in
     let body = is.body ∙ the_body function.result.name fun.returned.text left right (ap (λ (v : Variable). v.name) result.1) in
     let same : function ≡ function_of form = same_function function (function_of form) names.same result.1 body in
@@ -176,7 +176,7 @@ complete_fun fun function left right main unbounded meant some few different is 
     let apart = subst (λ (f : Function). AreDifferent f.parameters) same different in
     let found : Found fun form = record {
       parameters = names.found;
-      body = meant-body fun.body (fun.returned.text, left, right) (parts.body ∙ ap Some body);
+      body = denoted-body fun.body (fun.returned.text, left, right) (parts.body ∙ ap Some body);
       returned = refl;
       right = right_form form apart conjunct;
     } in
@@ -185,7 +185,7 @@ complete_fun fun function left right main unbounded meant some few different is 
 -- a program of the first form has a form, which is found
 pub form-complete : (decls : List DeclTree) (function : Function) → IsFirstTree (record { decls = decls }) function → (form : Form) × (form_in decls ≡ Some form)
 form-complete decls function first =
-    rw first.alone (complete_fun first.fun function first.left first.right first.main first.unbounded first.meant first.one_or_two.0 first.one_or_two.1 first.different first.conjunction)
+    rw first.alone (complete_fun first.fun function first.left first.right first.main first.unbounded first.denoted first.one_or_two.0 first.one_or_two.1 first.different first.conjunction)
 
 none_found : {A : Type 0} (found : Option A) (x : A) → found ≡ None → found ≡ Some x → ⊥
 none_found found x e f = let h = sym e ∙ f in cc

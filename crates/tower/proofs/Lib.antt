@@ -7,8 +7,8 @@ pub mod OneAnswer
 pub mod Closing
 pub mod WhenEnded
 pub mod Conjunctions
-pub mod TreesMeant
-pub mod TypesMeant
+pub mod TreesDenoted
+pub mod TypesDenoted
 pub mod FirstTrees
 pub mod Long
 pub mod Compiles

@@ -9,12 +9,12 @@ use Rattle.tw_parse.proofs.Sources as sources
 use Rattle.tw_gate.specs.Gates.{act}
 use Rattle.tw_gatetext.specs.Text.{File, file_text}
 use Rattle.tw_gatetext.specs.Files.{BeginsWith}
-use Rattle.tw_gatetext.proofs.Bounds.{file_text-tells}
+use Rattle.tw_gatetext.proofs.Bounds.{file_text-prefix_free}
 use Rattle.tw_gatetext.proofs.Refusals as gates
 use Rattle.tw_sim.specs.BitLines.{bit_lines, AreLinesOf}
-use Rattle.tw_sim.proofs.Laws.{right_not_refused, one_reason, bit_lines-tells}
+use Rattle.tw_sim.proofs.Laws.{right_not_refused, one_reason, bit_lines-injective}
 use Rattle.tw_state.specs.Programs.{Function}
-use Rattle.tw_state.specs.FromTrees.{function_meant}
+use Rattle.tw_state.specs.FromTrees.{function_denoted}
 use Rattle.tower.specs.declared.ending.Unanswered.TheVariants as unanswered
 use Rattle.tower.specs.Ending.{of_gates, of_lines}
 use Rattle.tower.specs.Requests.{Request, Format, Compile, Simulate, Invert, FileRequest}
@@ -46,7 +46,7 @@ one_fun f g e = cc
 
 one_function : (tree : ProgramTree) (function other : Function) → IsFirstTree tree function → IsFirstTree tree other → function ≡ other
 one_function tree function other x y =
-    some_is _ _ (sym x.meant ∙ ap function_meant (one_fun x.fun y.fun (sym x.alone ∙ y.alone)) ∙ y.meant)
+    some_is _ _ (sym x.denoted ∙ ap function_denoted (one_fun x.fun y.fun (sym x.alone ∙ y.alone)) ∙ y.denoted)
 
 one_format : (tree : ProgramTree) (outcome other : Outcome) → FormatAnswer tree outcome → FormatAnswer tree other → outcome ≡ other
 one_format tree outcome other x y = x ∙ sym y
@@ -68,7 +68,7 @@ one_source bytes OnProgram outcome other one (NoProgram refusal x a) (NoProgram 
 -- gate files
 
 one_file : (bytes : List ℕ) (file other : File) (rest more : List ℕ) → BeginsWith bytes file rest → BeginsWith bytes other more → (file ≡ other) × (rest ≡ more)
-one_file bytes file other rest more x y = file_text-tells file other rest more x.valid y.valid (sym x.text ∙ y.text)
+one_file bytes file other rest more x y = file_text-prefix_free file other rest more x.valid y.valid (sym x.text ∙ y.text)
 
 one_gates : (bytes : List ℕ) (OnFile : File → List ℕ → Outcome → Type 0) (outcome other : Outcome) → ((file : File) (rest : List ℕ) → OnFile file rest outcome → OnFile file rest other → outcome ≡ other) →
     GatesAnswer bytes OnFile outcome → GatesAnswer bytes OnFile other → outcome ≡ other
@@ -113,7 +113,7 @@ one_text rest lines other (simulate.AfterMark e) (simulate.AtMark e' f') = absur
 one_text rest lines other (simulate.AfterMark e) (simulate.AfterMark e') = after_mark lines other (sym e ∙ e')
 
 one_states : (wires : ℕ) (lines : List ℕ) (states other : List (List Bool)) → AreLinesOf wires lines states → AreLinesOf wires lines other → states ≡ other
-one_states wires lines states other x y = bit_lines-tells wires states other x.wide y.wide (sym x.spelled ∙ y.spelled)
+one_states wires lines states other x y = bit_lines-injective wires states other x.wide y.wide (sym x.spelled ∙ y.spelled)
 
 one_lines : (file : File) (lines : List ℕ) (outcome other : Outcome) → LinesAnswer file lines outcome → LinesAnswer file lines other → outcome ≡ other
 one_lines file lines outcome other (OnStates states x a) (OnStates states' y b) = a ∙ ap (λ (s : List (List Bool)). Prints (bit_lines (map (act file.gates) s))) (one_states file.wires lines states states' x y) ∙ sym b

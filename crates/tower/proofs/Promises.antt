@@ -25,7 +25,7 @@ use Rattle.tower.specs.Simulate as simulate
 use Rattle.tower.specs.Simulate.{HasLines, LinesAnswer, OnStates, SimulateAnswer, OfLevelT, OnLines, OtherLine, Simulated}
 use Rattle.tower.specs.Answer.{InputAnswer, Answer, OnInput, TooLong, Usage, GaveWhole, Answered, IsCutShort}
 use Rattle.tower.proofs.Compiles.{compiled}
-use Rattle.tower.proofs.TypesMeant.{meant-booleans}
+use Rattle.tower.proofs.TypesDenoted.{denoted-booleans}
 use Rattle.tower.proofs.OneRequest.{one_request}
 use Rattle.tower.proofs.WhenEnded.{if_told, told_answer, refusal_not_ok}
 
@@ -48,7 +48,7 @@ module _ (bytes text : List ℕ) (before now : Option (List ℕ)) (took : Append
     first = first;
     file = file_of request.widths request.inverse function;
     printed = subst (Appends before now) (text_is text _ e) took;
-    compiled = compiled request first.conjunction (meant-booleans first.fun function first.meant) first.one_or_two.1 narrow;
+    compiled = compiled request first.conjunction (denoted-booleans first.fun function first.denoted) first.one_or_two.1 narrow;
   }
   compiles_tree request narrow tree source (NotBuilt none e) = absurd (no_text text _ e)
 

@@ -4,7 +4,7 @@ use Rattle.std.specs.List.{AllByRecursion}
 use Rattle.tw_syntax.specs.Programs.{FunTree, FunDecl, ProgramTree}
 use Rattle.tw_state.specs.States.{Name}
 use Rattle.tw_state.specs.Programs.{Variable, Function}
-use Rattle.tw_state.specs.FromTrees.{function_meant}
+use Rattle.tw_state.specs.FromTrees.{function_denoted}
 use Rattle.tw_lower.specs.Correct.{IsConjunction}
 
 -- the names of the variables are all different
@@ -19,7 +19,7 @@ pub record IsFirstTree (tree : ProgramTree) (function : Function) : Type 0 where
   pub alone : tree.decls ≡ FunDecl fun ∷ []
   pub main : fun.name.text ≡ codes "main"
   pub unbounded : fun.bound ≡ None
-  pub meant : function_meant fun ≡ Some function
+  pub denoted : function_denoted fun ≡ Some function
   pub one_or_two : (1 ≤ length function.parameters) × (length function.parameters ≤ 2)
   pub different : AreDifferent function.parameters
   pub left : Name

@@ -307,7 +307,7 @@ cx 2 5\ncx 3 6\nmcx 2 5 6 4\ncx 3 6\ncx 2 5\nend\n",
 }
 
 #[test]
-fn answers_what_stands_behind_a_file(rt: HostRuntime) -> Result<(), AllocError> {
+fn answers_an_input_that_follows_a_file(rt: HostRuntime) -> Result<(), AllocError> {
     let other = "refused bad-gate-text at line 12\n";
     let table = [
         ("", Status::Ok, ""),

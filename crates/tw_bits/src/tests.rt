@@ -48,7 +48,7 @@ fn numbers_are_written_and_read(rt: HostRuntime) -> Result<(), AllocError> {
 }
 
 #[test]
-fn a_number_leaves_what_stands_beside_it(rt: HostRuntime) -> Result<(), AllocError> {
+fn a_number_leaves_the_bits_around_it(rt: HostRuntime) -> Result<(), AllocError> {
     let mut bits = Bits::zeros(rt.alloc(), 192)?;
     bits.put_number(0, 64, u64::MAX);
     bits.put_number(64, 64, u64::MAX);

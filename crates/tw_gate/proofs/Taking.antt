@@ -26,6 +26,6 @@ module _ {O : Type 0} {took broke : O → O → List PlainGate → Type 0} {faul
   }
 
   -- a break in xs is a break in every longer list
-  pub gave_front : ((a b : O) (xs ys : List PlainGate) → broke a b xs → broke a b (xs ++ ys))
+  pub gave_prefix : ((a b : O) (xs ys : List PlainGate) → broke a b xs → broke a b (xs ++ ys))
       → {a b : O} {stop : Stopped} {xs : List PlainGate} (ys : List PlainGate) → Gave took broke faults a b (Err stop) xs → Gave took broke faults a b (Err stop) (xs ++ ys)
-  gave_front longer ys first = record { whole = tt; broken = longer _ _ _ ys first.broken; cause = first.cause; steady = tt }
+  gave_prefix longer ys first = record { whole = tt; broken = longer _ _ _ ys first.broken; cause = first.cause; steady = tt }

@@ -18,14 +18,14 @@ abbrev pub Grew : List PlainGate → List PlainGate → List PlainGate → Type 
 Grew before now gates = now ≡ before ++ gates
 
 -- a list took a prefix of these gates
-pub record GrewFront (before now gates : List PlainGate) : Type 0 where
-  pub front : List PlainGate
+pub record GrewPrefix (before now gates : List PlainGate) : Type 0 where
+  pub prefix : List PlainGate
   pub rest : List PlainGate
-  pub split : gates ≡ front ++ rest
-  pub grew : Grew before now front
+  pub split : gates ≡ prefix ++ rest
+  pub grew : Grew before now prefix
 
 Grew-two : Grew (T 0 ∷ []) (T 0 ∷ H 1 ∷ T 2 ∷ []) (H 1 ∷ T 2 ∷ [])
 Grew-two = refl
 
-GrewFront-one : GrewFront (T 0 ∷ []) (T 0 ∷ H 1 ∷ []) (H 1 ∷ T 2 ∷ [])
-GrewFront-one = record { front = H 1 ∷ []; rest = T 2 ∷ []; split = refl; grew = refl }
+GrewPrefix-one : GrewPrefix (T 0 ∷ []) (T 0 ∷ H 1 ∷ []) (H 1 ∷ T 2 ∷ [])
+GrewPrefix-one = record { prefix = H 1 ∷ []; rest = T 2 ∷ []; split = refl; grew = refl }

@@ -1,8 +1,8 @@
 //! Gates on concrete bits, lists and their inverses, and a taker that stops.
 ghost use Rattle.std.specs.Prelude.{◌≡◌, ◌≤◌, [], ◌∷◌, ⊤, length, IfOk};
 ghost use Rattle.tw_gate.specs.Gates.{plain};
-ghost use Rattle.tw_gate.specs.Taking.{Gave, Grew, GrewFront};
-ghost use Rattle.tw_gate.specs.Growing.{grew_none, grew_both, grew_front_later, grew_front_longer};
+ghost use Rattle.tw_gate.specs.Taking.{Gave, Grew, GrewPrefix};
+ghost use Rattle.tw_gate.specs.Growing.{grew_none, grew_both, grew_prefix_later, grew_prefix_longer};
 
 use crate::{Gate, GateList, GateOut, Stopped, apply_list, invert};
 use std::alloc::{AllocError, Global};
@@ -18,7 +18,7 @@ struct Keeper {
 impl GateOut for Keeper {
     ghost took = { λ a b gates. Grew a.list b.list gates };
 
-    ghost broke = { λ a b gates. GrewFront a.list b.list gates };
+    ghost broke = { λ a b gates. GrewPrefix a.list b.list gates };
 
     ghost fits = { λ a gate. ⊤ };
 
@@ -28,9 +28,9 @@ impl GateOut for Keeper {
 
     ghost took_both = { λ a b c xs ys first second. grew_both a.list b.list c.list xs ys first second };
 
-    ghost broke_later = { λ a b c xs ys first second. grew_front_later a.list b.list c.list xs ys first second };
+    ghost broke_later = { λ a b c xs ys first second. grew_prefix_later a.list b.list c.list xs ys first second };
 
-    ghost broke_longer = { λ a b xs ys first. grew_front_longer a.list b.list xs ys first };
+    ghost broke_longer = { λ a b xs ys first. grew_prefix_longer a.list b.list xs ys first };
 
     ghost fits_stays = { λ a b xs gate taken. (λ fit. fit, λ fit. fit) };
 

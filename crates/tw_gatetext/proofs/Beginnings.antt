@@ -6,12 +6,12 @@ use Rattle.tw_gatetext.specs.declared.file.GateFault.TheVariants as fault
 use Rattle.tw_gatetext.specs.Text.{File, file_text}
 use Rattle.tw_gatetext.specs.Files.{BeginsWith}
 use Rattle.tw_gatetext.specs.Refused.{IsRefusedText}
-use Rattle.tw_gatetext.proofs.Bounds.{file_text-tells}
+use Rattle.tw_gatetext.proofs.Bounds.{file_text-prefix_free}
 use Rattle.tw_gatetext.proofs.Refusals.{no_file, one_refusal}
 
 pub one_file : (bytes : List ℕ) (file other : File) (rest rest' : List ℕ) → BeginsWith bytes file rest → BeginsWith bytes other rest' → other ≡ file
 one_file bytes file other rest rest' begins begins' =
-    (file_text-tells other file rest' rest begins'.valid begins.valid (sym begins'.text ∙ begins.text)).0
+    (file_text-prefix_free other file rest' rest begins'.valid begins.valid (sym begins'.text ∙ begins.text)).0
 
 lengths : (bytes : List ℕ) (file : File) (rest : List ℕ) → BeginsWith bytes file rest → length bytes ≡ length (file_text file) + length rest
 lengths bytes file rest begins = ap length begins.text ∙ length-append (file_text file) rest

@@ -77,8 +77,8 @@ small_header file valid = record {
 }
 
 -- the text of a valid file determines it, and is no proper prefix of another's
-pub file_text-tells : (file other : File) (xs ys : List ℕ) → IsValid file → IsValid other → file_text file ++ xs ≡ file_text other ++ ys → (file ≡ other) × (xs ≡ ys)
-file_text-tells file other xs ys valid valid' e =
+pub file_text-prefix_free : (file other : File) (xs ys : List ℕ) → IsValid file → IsValid other → file_text file ++ xs ≡ file_text other ++ ys → (file ≡ other) × (xs ≡ ys)
+file_text-prefix_free file other xs ys valid valid' e =
     file_text-delimited file other xs ys (small_header file valid) (small_header other valid')
     (small_gates file.level file.wires file.gates valid.few_wires valid.fit_level valid.fit_wires)
     (small_gates other.level other.wires other.gates valid'.few_wires valid'.fit_level valid'.fit_wires)

@@ -5,9 +5,9 @@ use Rattle.std.proofs.lemmas.List.{append_cancel_left}
 use Rattle.std.proofs.lemmas.List.Sums.{take_while-cons}
 use Rattle.std.proofs.lemmas.Fmt.{decimal_injective}
 use Rattle.tw_text.specs.Digits.{digit_run}
-use Rattle.tw_text.specs.Front.{after}
+use Rattle.tw_text.specs.Prefix.{after}
 use Rattle.tw_text.proofs.Decimals.{digit_run-decimal}
-use Rattle.tw_text.proofs.Fronts.{after-append, append-after}
+use Rattle.tw_text.proofs.Prefixes.{after-append, append-after}
 use Rattle.tw_gatetext.specs.Numerals.{Shows, Word, Larger, IsNumeral}
 use Rattle.tw_gatetext.proofs.Delimited.{Ends, Small}
 

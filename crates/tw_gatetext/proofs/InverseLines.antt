@@ -2,8 +2,8 @@
 use Rattle.std.proofs.Common.{◌≡◌, ◌∙◌, ap, sym, ℕ, nat_eq, false, List, [], ◌∷◌, ◌++◌, decimal, codes, Some, None, refl}
 use Rattle.std.proofs.lemmas.Bool.Decides.{Decides-eqb}
 use Rattle.std.proofs.lemmas.List.{append_cancel_left}
-use Rattle.tw_text.specs.Front.{after}
-use Rattle.tw_text.proofs.Fronts.{append-after}
+use Rattle.tw_text.specs.Prefix.{after}
+use Rattle.tw_text.proofs.Prefixes.{append-after}
 use Rattle.tw_gate.specs.Gates.{PlainGate, X, H, T, Tdg, inverse_gate}
 use Rattle.tw_gatetext.specs.Text.{line}
 use Rattle.tw_gatetext.proofs.DigitRuns.{not_after}

@@ -2,9 +2,9 @@
 use Rattle.std.proofs.Common.{◌≡◌, ◌∙◌, ap, sym, ℕ, ◌≤◌, List, Some, None, arith}
 use Rattle.std.proofs.lemmas.Fmt.{decimal_injective}
 use Rattle.tw_text.specs.Limits.{limit_of}
-use Rattle.tw_text.specs.Front.{after}
+use Rattle.tw_text.specs.Prefix.{after}
 use Rattle.tw_text.specs.declared.refusal.Refusal.{Refusal}
-use Rattle.tw_text.proofs.Fronts.{after-append}
+use Rattle.tw_text.proofs.Prefixes.{after-append}
 use Rattle.tw_gatetext.specs.Numerals.{Shows, Word, Larger}
 use Rattle.tw_gatetext.specs.Refused.{Limit, PassesLimit}
 use Rattle.tw_gatetext.proofs.DigitRuns.{not_after}

@@ -1,8 +1,8 @@
 -- Numbers after spaces, up to the end of a line.
 use Rattle.std.proofs.Common.{◌≡◌, ◌∙◌, ap, sym, ℕ, ◌<◌, ◌≤◌, ◌^◌, List, [], ◌∷◌, ◌++◌, length, decimal, codes, Some, None, refl, arith, append_assoc, append-nil, length-append}
 use Rattle.std.specs.List.{AllByRecursion}
-use Rattle.tw_text.specs.Front.{after}
-use Rattle.tw_text.proofs.Fronts.{after-append, append-after}
+use Rattle.tw_text.specs.Prefix.{after}
+use Rattle.tw_text.proofs.Prefixes.{after-append, append-after}
 use Rattle.tw_gatetext.specs.Text.{spaced}
 use Rattle.tw_gatetext.proofs.Lists.{all_push, spaced-append}
 use Rattle.tw_gatetext.proofs.DigitRuns.{not_after}

@@ -1,7 +1,7 @@
 //! Gate lines as letters and numbers, and the gates that they denote.
 ghost use Rattle.std.specs.Prelude.{◌≡◌, ◌≢◌, ℕ, ◌<◌, ◌≤◌, ◌^◌, ◌++◌, [], ◌∷◌, List, length, take, codes, decimal, IfSome};
 ghost use Rattle.std.specs.Option.{IfNone, option_copied};
-ghost use Rattle.tw_text.specs.Front.{after};
+ghost use Rattle.tw_text.specs.Prefix.{after};
 ghost use Rattle.std.specs.List.{AllByRecursion};
 ghost use Rattle.tw_gate.specs.Gates.{PlainGate, plain, X};
 ghost use Rattle.tw_gatetext.specs.declared.gate_words.TheConstants.{MOST_NUMBERS};

@@ -7,10 +7,10 @@ use Rattle.std.proofs.lemmas.Bool.{and_parts}
 use Rattle.std.proofs.lemmas.Bool.Decides.{Decides-eqb}
 use Rattle.std.proofs.lemmas.List.{append_cancel_right}
 use Rattle.std.proofs.lemmas.Str.{IsUtf8-take}
-use Rattle.tw_text.proofs.Cuts.{boundary, spelled_apart}
+use Rattle.tw_text.proofs.Suffixes.{boundary, spelled_apart}
 use Rattle.tw_text.specs.declared.place.Pos.{Pos}
 use Rattle.tw_text.specs.Places.{after_chars}
-use Rattle.tw_text.specs.Cuts.{Begins, Follows}
+use Rattle.tw_text.specs.Suffixes.{Begins, Follows}
 use Rattle.tw_lex.specs.declared.token.TokenKind.{TokenKind}
 use Rattle.tw_lex.specs.Tokens.{Lexeme, Lexed, Piece, Blank, Comment, piece_text, piece_tokens, token_of, is_blank, is_in_line, Ends, Stands, Splits, HasTokens, StopsAt}
 use Rattle.tw_lex.specs.Scans.{Found, RunsTo, SplitsTo, lexeme_of, IsKind}
@@ -104,8 +104,8 @@ pub some_token : (text rest : List ℕ) (count : ℕ) (kind : TokenKind) (at : P
     → (t : Lexed) × SplitsTo (chars text) at (t ∷ []) (chars rest) (record { line = at.line; col = at.col + count })
 some_token text rest count kind at f utf8 utf8' =
     let taken = take (length text - length rest) text in
-    let cut = spelled_apart text rest taken f.behind utf8 utf8' refl in
-    (record { lexeme = lexeme_of kind taken; at = at }, (token text taken rest count kind at f cut (IsUtf8-take text (length text - length rest) utf8 (boundary text rest f.behind utf8'))).0)
+    let cut = spelled_apart text rest taken f.suffix utf8 utf8' refl in
+    (record { lexeme = lexeme_of kind taken; at = at }, (token text taken rest count kind at f cut (IsUtf8-take text (length text - length rest) utf8 (boundary text rest f.suffix utf8'))).0)
 
 -- it has a character
 pub token-shorter : (text rest : List ℕ) (count : ℕ) (kind : TokenKind) → Found text rest count kind → length rest < length text

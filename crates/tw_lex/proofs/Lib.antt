@@ -1,4 +1,4 @@
-pub mod AsciiFronts
+pub mod AsciiPrefixes
 pub mod Classes
 pub mod Cursors
 pub mod Endings

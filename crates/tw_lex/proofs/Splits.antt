@@ -14,14 +14,14 @@ use Rattle.tw_lex.proofs.SymbolTexts.{one_symbol}
 use Rattle.tw_lex.proofs.Runs.{same_run}
 use Rattle.tw_lex.proofs.Classes.{sort, class, heads, ends-digits}
 
--- fronts of one length
-same_front : (xs ys mid nid : List ℕ) → length xs ≡ length ys → xs ++ mid ≡ ys ++ nid → (xs ≡ ys) × (mid ≡ nid)
-same_front [] [] mid nid n e = (refl, e)
-same_front [] (y ∷ ys) mid nid n e = absurd (omega arith)
-same_front (x ∷ xs) [] mid nid n e = absurd (omega arith)
-same_front (x ∷ xs) (y ∷ ys) mid nid n e =
+-- prefixes of one length
+same_prefix : (xs ys mid nid : List ℕ) → length xs ≡ length ys → xs ++ mid ≡ ys ++ nid → (xs ≡ ys) × (mid ≡ nid)
+same_prefix [] [] mid nid n e = (refl, e)
+same_prefix [] (y ∷ ys) mid nid n e = absurd (omega arith)
+same_prefix (x ∷ xs) [] mid nid n e = absurd (omega arith)
+same_prefix (x ∷ xs) (y ∷ ys) mid nid n e =
     let tails : xs ++ mid ≡ ys ++ nid = cc in
-    let rest = same_front xs ys mid nid (omega arith) tails in
+    let rest = same_prefix xs ys mid nid (omega arith) tails in
     let head : x ≡ y = cc in
     (cc, rest.1)
 
@@ -45,7 +45,7 @@ same_sort (Digits v) (Digits w) mid nid same s t e =
 same_sort (Operator symbol) (Operator other) mid nid same s t e =
     let long = s.1 other nid e in
     let long' = t.1 symbol mid (sym e) in
-    let both = same_front (symbol_text symbol) (symbol_text other) mid nid (omega arith) e in
+    let both = same_prefix (symbol_text symbol) (symbol_text other) mid nid (omega arith) e in
     (ap Operator (one_symbol symbol other both.0), both.1)
 same_sort p q mid nid same s t e = absurd (omega arith)
 
@@ -63,21 +63,21 @@ not_nothing p mid s e =
     let f = heads p mid s in
     let empty : [] ≡ f.c ∷ (f.cs ++ mid) = e ∙ ap (λ x. x ++ mid) f.text in cc
 
--- what a whole text has behind the pieces at its front
-pub record Behind (toks other : List Lexed) (rest : List ℕ) (at end : Pos) : Type 0 where
+-- what a whole text has after the pieces at its beginning
+pub record AfterPieces (toks other : List Lexed) (rest : List ℕ) (at end : Pos) : Type 0 where
   pub pieces : List Piece
   pub more : List Lexed
   pub all : other ≡ toks ++ more
   pub splits : Splits pieces rest at more [] end
 
-pub behind : (ps qs : List Piece) (cs : List ℕ) (at : Pos) (toks other : List Lexed) (rest : List ℕ) (stop end : Pos) → Splits ps cs at toks rest stop → Splits qs cs at other [] end → Behind toks other rest stop end
-behind [] qs cs at toks other rest stop end s t =
+pub after_pieces : (ps qs : List Piece) (cs : List ℕ) (at : Pos) (toks other : List Lexed) (rest : List ℕ) (stop end : Pos) → Splits ps cs at toks rest stop → Splits qs cs at other [] end → AfterPieces toks other rest stop end
+after_pieces [] qs cs at toks other rest stop end s t =
     record { pieces = qs; more = other; all = rw s.1 refl; splits = rw (← s.0, ← s.2) t }
-behind (p ∷ ps) [] cs at toks other rest stop end s t = absurd (not_nothing p s.0 s.3 (sym t.0 ∙ s.2))
-behind (p ∷ ps) (q ∷ qs) cs at toks other rest stop end s t =
+after_pieces (p ∷ ps) [] cs at toks other rest stop end s t = absurd (not_nothing p s.0 s.3 (sym t.0 ∙ s.2))
+after_pieces (p ∷ ps) (q ∷ qs) cs at toks other rest stop end s t =
     let one = one_piece p q s.0 t.0 s.3 t.3 (sym s.2 ∙ t.2) in
     let t' : Splits qs s.0 (after_chars at (piece_text p)) t.1 [] end = rw (one.0, one.1) t.5 in
-    let b = behind ps qs s.0 (after_chars at (piece_text p)) s.1 t.1 rest stop end s.5 t' in
+    let b = after_pieces ps qs s.0 (after_chars at (piece_text p)) s.1 t.1 rest stop end s.5 t' in
     record {
       pieces = b.pieces;
       more = b.more;
@@ -92,7 +92,7 @@ nothing_left (p ∷ ps) at end more s = absurd (not_nothing p s.0 s.3 s.2)
 -- a text has its tokens and no others
 pub one_reading : (cs : List ℕ) (at : Pos) (toks other : List Lexed) → HasTokens cs at toks → HasTokens cs at other → other ≡ toks
 one_reading cs at toks other h k =
-    let b = behind h.pieces k.pieces cs at toks other [] h.end k.end h.splits k.splits in
+    let b = after_pieces h.pieces k.pieces cs at toks other [] h.end k.end h.splits k.splits in
     b.all ∙ ap (λ x. toks ++ x) (nothing_left b.pieces h.end k.end b.more b.splits) ∙ append-nil toks
 
 one_more : (ps : List Piece) (rest : List ℕ) (at end : Pos) (more : List Lexed) → Splits ps rest at more [] end → rest ≢ [] → ((piece : Piece) (mid : List ℕ) → rest ≡ piece_text piece ++ mid → Stands piece mid → ⊥) → ⊥
@@ -102,7 +102,7 @@ one_more (p ∷ ps) rest at end more s some none = none p s.0 s.2 s.3
 -- and where its pieces stop it has none
 pub no_reading : (cs : List ℕ) (at stop : Pos) (toks : List Lexed) → StopsAt cs at stop → HasTokens cs at toks → ⊥
 no_reading cs at stop toks s h =
-    let b = behind s.pieces h.pieces cs at s.toks toks s.rest stop h.end s.splits h.splits in
+    let b = after_pieces s.pieces h.pieces cs at s.toks toks s.rest stop h.end s.splits h.splits in
     one_more b.pieces s.rest stop h.end b.more b.splits s.some_left s.none_stands
 
 one_stop_from : (ps qs : List Piece) (cs : List ℕ) (at : Pos) (toks other : List Lexed) (rest tail : List ℕ) (stop end : Pos) → Splits ps cs at toks rest stop → Splits qs cs at other tail end

@@ -10,7 +10,7 @@ use Rattle.std.proofs.lemmas.Slice.Eq.{bytes_eq-Decides}
 use Rattle.unicode_ident.proofs.Computing.{unicode_ident}
 use Rattle.tw_lex.specs.declared.symbol.Symbol.{Symbol}
 use Rattle.tw_lex.specs.declared.symbol.Symbol.TheVariants as symbols
-use Rattle.tw_lex.specs.Symbols.{symbol_text, all_symbols, starts_with, is_keyword, find_symbol, symbol_of, only_from, symbols_from, begins, find_front}
+use Rattle.tw_lex.specs.Symbols.{symbol_text, all_symbols, starts_with, is_keyword, find_symbol, symbol_of, only_from, symbols_from, begins, find_prefix}
 use Rattle.tw_lex.specs.Tokens.{starts_name, is_in_line}
 
 -- a symbol is found by its text
@@ -111,20 +111,20 @@ pub begins-not : (text cs : List ℕ) → ((mid : List ℕ) → cs ≡ text ++ m
 begins-not text cs none =
     elim (begins text cs) as (λ k. (begins text cs ≡ k) → k ≡ false) [ true ↦ λ e. let m = begins-mid text cs e in absurd (none m.0 m.1) | false ↦ λ e. refl ] refl
 
-other_front : (text : List ℕ) (first : ℕ) (cs : List ℕ) → starts_with (λ c. first == c) text ≡ false → starts_with (λ c. true) text ≡ true → begins text (first ∷ cs) ≡ false
-other_front [] first cs e some = absurd (cc)
-other_front (t ∷ ts) first cs e some = rw (symmetric first t e) refl
+other_prefix : (text : List ℕ) (first : ℕ) (cs : List ℕ) → starts_with (λ c. first == c) text ≡ false → starts_with (λ c. true) text ≡ true → begins text (first ∷ cs) ≡ false
+other_prefix [] first cs e some = absurd (cc)
+other_prefix (t ∷ ts) first cs e some = rw (symmetric first t e) refl
 
 has_text : (symbol : Symbol) → starts_with (λ c. true) (symbol_text symbol) ≡ true
 has_text symbols.Swap = refl
 has_text symbol = refl
 
-pub front_only : (list : List Symbol) (first : ℕ) (cs : List ℕ) → find_front (only_from first list) (first ∷ cs) ≡ find_front list (first ∷ cs)
-front_only [] first cs = refl
-front_only (symbol ∷ list) first cs =
-    elim (starts_with (λ c. first == c) (symbol_text symbol)) as (λ k. (starts_with (λ c. first == c) (symbol_text symbol) ≡ k) → find_front (if k then symbol ∷ only_from first list else only_from first list) (first ∷ cs) ≡ find_front (symbol ∷ list) (first ∷ cs)) [
-      | true ↦ λ e. ap (λ (o : Option Symbol). if begins (symbol_text symbol) (first ∷ cs) then Some symbol else o) (front_only list first cs)
-      | false ↦ λ e. rw (other_front (symbol_text symbol) first cs e (has_text symbol)) (front_only list first cs)
+pub prefix_only : (list : List Symbol) (first : ℕ) (cs : List ℕ) → find_prefix (only_from first list) (first ∷ cs) ≡ find_prefix list (first ∷ cs)
+prefix_only [] first cs = refl
+prefix_only (symbol ∷ list) first cs =
+    elim (starts_with (λ c. first == c) (symbol_text symbol)) as (λ k. (starts_with (λ c. first == c) (symbol_text symbol) ≡ k) → find_prefix (if k then symbol ∷ only_from first list else only_from first list) (first ∷ cs) ≡ find_prefix (symbol ∷ list) (first ∷ cs)) [
+      | true ↦ λ e. ap (λ (o : Option Symbol). if begins (symbol_text symbol) (first ∷ cs) then Some symbol else o) (prefix_only list first cs)
+      | false ↦ λ e. rw (other_prefix (symbol_text symbol) first cs e (has_text symbol)) (prefix_only list first cs)
     ] refl
 
 -- of two symbols with one first character the earlier one is no shorter
@@ -181,11 +181,11 @@ listed_later first list us cs nid not_begun listed e =
       | false ↦ λ same h. h
     ] refl listed
 
-longest_of : (list : List Symbol) (symbol : Symbol) (cs us nid : List ℕ) → is_ordered list ≡ true → find_front list cs ≡ Some symbol → is_listed us list ≡ true → cs ≡ us ++ nid → length us ≤ length (symbol_text symbol)
+longest_of : (list : List Symbol) (symbol : Symbol) (cs us nid : List ℕ) → is_ordered list ≡ true → find_prefix list cs ≡ Some symbol → is_listed us list ≡ true → cs ≡ us ++ nid → length us ≤ length (symbol_text symbol)
 longest_of [] symbol cs us nid order found listed e = absurd (cc)
 longest_of (first ∷ list) symbol cs us nid order found listed e =
     let parts = and_parts (list_all (λ other. is_no_shorter (symbol_text first) (symbol_text other)) list) (is_ordered list) order in
-    elim (begins (symbol_text first) cs) as (λ k. (begins (symbol_text first) cs ≡ k) → (if k then Some first else find_front list cs) ≡ Some symbol → length us ≤ length (symbol_text symbol)) [
+    elim (begins (symbol_text first) cs) as (λ k. (begins (symbol_text first) cs ≡ k) → (if k then Some first else find_prefix list cs) ≡ Some symbol → length us ≤ length (symbol_text symbol)) [
       | true ↦ λ h found'.
           let mid = begins-mid (symbol_text first) cs h in
           let short : length us ≤ length (symbol_text first) = first_longest (symbol_text first) list us mid.0 nid parts.0 listed (sym mid.1 ∙ e) in
@@ -193,36 +193,36 @@ longest_of (first ∷ list) symbol cs us nid order found listed e =
       | false ↦ λ h found'. longest_of list symbol cs us nid parts.1 found' (listed_later first list us cs nid h listed e) e
     ] refl found
 
--- the symbol that is found at the front is the longest one there
-pub find_front-longest : (first : ℕ) (more : List ℕ) (symbol other : Symbol) (nid : List ℕ) → find_front (symbols_from first) (first ∷ more) ≡ Some symbol → first ∷ more ≡ symbol_text other ++ nid
+-- the symbol that is found at the beginning is the longest one there
+pub find_prefix-longest : (first : ℕ) (more : List ℕ) (symbol other : Symbol) (nid : List ℕ) → find_prefix (symbols_from first) (first ∷ more) ≡ Some symbol → first ∷ more ≡ symbol_text other ++ nid
     → length (symbol_text other) ≤ length (symbol_text symbol)
 unfolding symbols_from
-find_front-longest first more symbol other nid found e =
-    longest_of all_symbols symbol (first ∷ more) (symbol_text other) nid all_ordered (sym (front_only all_symbols first more) ∙ found) (all_listed other) e
+find_prefix-longest first more symbol other nid found e =
+    longest_of all_symbols symbol (first ∷ more) (symbol_text other) nid all_ordered (sym (prefix_only all_symbols first more) ∙ found) (all_listed other) e
 
 -- and where none is found none begins the characters
-none_of : (list : List Symbol) (cs us nid : List ℕ) → find_front list cs ≡ None → is_listed us list ≡ true → cs ≡ us ++ nid → ⊥
+none_of : (list : List Symbol) (cs us nid : List ℕ) → find_prefix list cs ≡ None → is_listed us list ≡ true → cs ≡ us ++ nid → ⊥
 none_of [] cs us nid none listed e = cc
 none_of (first ∷ list) cs us nid none listed e =
-    elim (begins (symbol_text first) cs) as (λ k. (begins (symbol_text first) cs ≡ k) → (if k then Some first else find_front list cs) ≡ None → ⊥) [
+    elim (begins (symbol_text first) cs) as (λ k. (begins (symbol_text first) cs ≡ k) → (if k then Some first else find_prefix list cs) ≡ None → ⊥) [
       | true ↦ λ h none'. absurd (cc)
       | false ↦ λ h none'. none_of list cs us nid none' (listed_later first list us cs nid h listed e) e
     ] refl none
 
-pub find_front-none : (first : ℕ) (more : List ℕ) (other : Symbol) (nid : List ℕ) → find_front (symbols_from first) (first ∷ more) ≡ None → first ∷ more ≡ symbol_text other ++ nid → ⊥
+pub find_prefix-none : (first : ℕ) (more : List ℕ) (other : Symbol) (nid : List ℕ) → find_prefix (symbols_from first) (first ∷ more) ≡ None → first ∷ more ≡ symbol_text other ++ nid → ⊥
 unfolding symbols_from
-find_front-none first more other nid none e = none_of all_symbols (first ∷ more) (symbol_text other) nid (sym (front_only all_symbols first more) ∙ none) (all_listed other) e
+find_prefix-none first more other nid none e = none_of all_symbols (first ∷ more) (symbol_text other) nid (sym (prefix_only all_symbols first more) ∙ none) (all_listed other) e
 
 -- the symbols of a list one after the other
-pub front_here : (list : List Symbol) (i : ℕ) (d : Symbol) (cs mid : List ℕ) → i < length list → find_front (drop i list) cs ≡ find_front list cs → cs ≡ symbol_text (get_or list i d) ++ mid
-    → find_front list cs ≡ Some (get_or list i d)
-front_here list i d cs mid within so_far is =
+pub prefix_here : (list : List Symbol) (i : ℕ) (d : Symbol) (cs mid : List ℕ) → i < length list → find_prefix (drop i list) cs ≡ find_prefix list cs → cs ≡ symbol_text (get_or list i d) ++ mid
+    → find_prefix list cs ≡ Some (get_or list i d)
+prefix_here list i d cs mid within so_far is =
     let test : begins (symbol_text (get_or list i d)) cs ≡ true = rw is (begins-append (symbol_text (get_or list i d)) mid) in
-    sym so_far ∙ ap (λ l. find_front l cs) (drop_more list i d within) ∙ rw test refl
+    sym so_far ∙ ap (λ l. find_prefix l cs) (drop_more list i d within) ∙ rw test refl
 
-pub front_next : (list : List Symbol) (i : ℕ) (d : Symbol) (cs : List ℕ) → i < length list → find_front (drop i list) cs ≡ find_front list cs → ((mid : List ℕ) → cs ≡ symbol_text (get_or list i d) ++ mid → ⊥)
-    → find_front (drop (i + 1) list) cs ≡ find_front list cs
-front_next list i d cs within so_far none =
+pub prefix_next : (list : List Symbol) (i : ℕ) (d : Symbol) (cs : List ℕ) → i < length list → find_prefix (drop i list) cs ≡ find_prefix list cs → ((mid : List ℕ) → cs ≡ symbol_text (get_or list i d) ++ mid → ⊥)
+    → find_prefix (drop (i + 1) list) cs ≡ find_prefix list cs
+prefix_next list i d cs within so_far none =
     let test : begins (symbol_text (get_or list i d)) cs ≡ false = begins-not (symbol_text (get_or list i d)) cs none in
-    let here : find_front (drop i list) cs ≡ find_front (drop (i + 1) list) cs = ap (λ l. find_front l cs) (drop_more list i d within) ∙ rw test refl in
+    let here : find_prefix (drop i list) cs ≡ find_prefix (drop (i + 1) list) cs = ap (λ l. find_prefix l cs) (drop_more list i d within) ∙ rw test refl in
     sym here ∙ so_far

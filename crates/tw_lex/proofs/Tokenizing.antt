@@ -10,9 +10,9 @@ use Rattle.unicode_ident.specs.Ident.{is_xid_continue}
 use Rattle.tw_text.specs.declared.place.Pos.{Pos}
 use Rattle.tw_text.specs.Places.{after_chars}
 use Rattle.tw_lex.specs.declared.symbol.Symbol.{Symbol}
-use Rattle.tw_lex.specs.Symbols.{symbol_text, is_keyword, starts_with, symbols_from, begins, find_front}
+use Rattle.tw_lex.specs.Symbols.{symbol_text, is_keyword, starts_with, symbols_from, begins, find_prefix}
 use Rattle.tw_lex.specs.Tokens.{Lexed, Piece, Blank, Comment, Letters, Digits, Operator, piece_text, piece_tokens, is_blank, starts_name, is_in_line, Stands, HasTokens}
-use Rattle.tw_lex.proofs.SymbolTexts.{find_front-longest}
+use Rattle.tw_lex.proofs.SymbolTexts.{find_prefix-longest}
 
 -- the number that these digits continue
 abbrev value_of : ℕ → List ℕ → ℕ
@@ -26,7 +26,7 @@ piece_of (c ∷ cs) =
     if is_blank c then Some (Blank c) else (
     if begins (codes "//") (c ∷ cs) then Some (Comment (take_while is_in_line (drop 1 cs))) else (
     if starts_name c then Some (Letters c (take_while is_xid_continue cs)) else (
-    if is_ascii_digit c then Some (Digits (value_of 0 (take_while is_ascii_digit (c ∷ cs)))) else option_map Operator (find_front (symbols_from c) (c ∷ cs)))))
+    if is_ascii_digit c then Some (Digits (value_of 0 (take_while is_ascii_digit (c ∷ cs)))) else option_map Operator (find_prefix (symbols_from c) (c ∷ cs)))))
 
 -- whether the symbol is the longest that begins a text
 abbrev is_same : Symbol → Option Symbol → Bool
@@ -35,7 +35,7 @@ is_same symbol (Some other) = bytes_eq (symbol_text symbol) (symbol_text other)
 
 abbrev is_longest : Symbol → List ℕ → Bool
 is_longest symbol [] = false
-is_longest symbol (c ∷ cs) = is_same symbol (find_front (symbols_from c) (c ∷ cs))
+is_longest symbol (c ∷ cs) = is_same symbol (find_prefix (symbols_from c) (c ∷ cs))
 
 -- whether the piece keeps its rule before this rest
 abbrev stands : Piece → List ℕ → Bool
@@ -70,11 +70,11 @@ not_true false e = refl
 
 longest : (symbol : Symbol) (cs : List ℕ) → is_longest symbol cs ≡ true → (other : Symbol) (more : List ℕ) → cs ≡ symbol_text other ++ more → length (symbol_text other) ≤ length (symbol_text symbol)
 longest symbol [] e other more is = absurd (cc)
-longest symbol (c ∷ cs) e other more is = by_found (find_front (symbols_from c) (c ∷ cs)) refl e
+longest symbol (c ∷ cs) e other more is = by_found (find_prefix (symbols_from c) (c ∷ cs)) refl e
   where
-    by_found : (found : Option Symbol) → find_front (symbols_from c) (c ∷ cs) ≡ found → is_same symbol found ≡ true → length (symbol_text other) ≤ length (symbol_text symbol)
+    by_found : (found : Option Symbol) → find_prefix (symbols_from c) (c ∷ cs) ≡ found → is_same symbol found ≡ true → length (symbol_text other) ≤ length (symbol_text symbol)
     by_found None f same = absurd (cc)
-    by_found (Some front) f same = rw ((bytes_eq-Decides (symbol_text symbol) (symbol_text front)).0 same) (find_front-longest c cs front other more f is)
+    by_found (Some front) f same = rw ((bytes_eq-Decides (symbol_text symbol) (symbol_text front)).0 same) (find_prefix-longest c cs front other more f is)
 
 stands-sound : (piece : Piece) (rest : List ℕ) → stands piece rest ≡ true → Stands piece rest
 stands-sound (Blank c) rest e = e

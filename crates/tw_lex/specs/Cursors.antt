@@ -33,7 +33,7 @@ abbrev pub from_token : Option Token → List Lexed → List Lexed
 from_token None toks = []
 from_token (Some token) toks = seen token ∷ toks
 
--- the tokens behind the first one
-abbrev pub behind : List Lexed → List Lexed
-behind [] = []
-behind (t ∷ ts) = ts
+-- the tokens after the first one
+abbrev pub after_first : List Lexed → List Lexed
+after_first [] = []
+after_first (t ∷ ts) = ts

@@ -1,4 +1,4 @@
--- What scanning finds at the front of a text.
+-- What scanning finds at the beginning of a text.
 use Rattle.std.specs.Prelude.{◌≡◌, ℕ, ◌+◌, ◌≤◌, ◌==◌, Bool, true, false, List, ◌++◌, length, Option, Some, None, decimal, refl}
 use Rattle.std.specs.List.{list_all}
 use Rattle.std.specs.Char.{is_ascii_digit}
@@ -7,7 +7,7 @@ use Rattle.unicode_ident.specs.Ident.{is_xid_continue}
 use Rattle.tw_text.specs.declared.place.Pos.{Pos}
 use Rattle.tw_text.specs.declared.refusal.Refusal.{Refusal}
 use Rattle.tw_text.specs.declared.refusal.Rule.TheVariants as rule
-use Rattle.tw_text.specs.Cuts.{EndsWith}
+use Rattle.tw_text.specs.Suffixes.{EndsWith}
 use Rattle.tw_text.specs.Places.{first_place}
 use Rattle.tw_lex.specs.declared.token.Token.{Token}
 use Rattle.tw_lex.specs.declared.token.TokenKind.{TokenKind}
@@ -64,7 +64,7 @@ pub record Runs (test : ℕ → Bool) (text rest : List ℕ) (count : ℕ) : Typ
   pub all : list_all test run ≡ true
   pub counted : count ≡ length run
   pub short : count + length rest ≤ length text
-  pub behind : EndsWith text rest
+  pub suffix : EndsWith text rest
 
 -- and the rest begins with no such character
 pub record RunsTo (test : ℕ → Bool) (text rest : List ℕ) (count : ℕ) : Type 0 where
@@ -80,9 +80,9 @@ pub record Found (text rest : List ℕ) (count : ℕ) (kind : TokenKind) : Type 
   pub in_line : list_all is_in_line (piece_text piece) ≡ true
   pub counted : count ≡ length (piece_text piece)
   pub short : count + length rest ≤ length text
-  pub behind : EndsWith text rest
+  pub suffix : EndsWith text rest
 
--- the piece does not stand at the front of these characters
+-- the piece does not stand at the beginning of these characters
 abbrev pub Lacks : List ℕ → Piece → Type 0
 Lacks cs piece = (mid : List ℕ) → cs ≡ piece_text piece ++ mid → ¬ Stands piece mid
 

@@ -116,10 +116,10 @@ begins (t ∷ ts) [] = false
 begins (t ∷ ts) (c ∷ cs) = (t == c) && begins ts cs
 
 -- the first symbol of a list that begins a text, if one does
-abbrev pub find_front : List Symbol → List ℕ → Option Symbol
-find_front [] cs = None
-find_front (symbol ∷ list) cs = if begins (symbol_text symbol) cs then Some symbol else find_front list cs
+abbrev pub find_prefix : List Symbol → List ℕ → Option Symbol
+find_prefix [] cs = None
+find_prefix (symbol ∷ list) cs = if begins (symbol_text symbol) cs then Some symbol else find_prefix list cs
 
-pub find_front-longest : find_front (symbols_from 60) (codes "<-7") ≡ Some symbols.Assign
+pub find_prefix-longest : find_prefix (symbols_from 60) (codes "<-7") ≡ Some symbols.Assign
 unfolding symbols_from
-find_front-longest = refl
+find_prefix-longest = refl

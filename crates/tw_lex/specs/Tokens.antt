@@ -89,7 +89,7 @@ Ends test rest = starts_with test rest ≡ false
 abbrev pub IsLongest : Symbol → List ℕ → Type 0
 IsLongest symbol rest = (other : Symbol) (more : List ℕ) → symbol_text symbol ++ rest ≡ symbol_text other ++ more → length (symbol_text other) ≤ length (symbol_text symbol)
 
--- the piece keeps its rule, and the rest does not go on with it (behind a number, no character that continues names)
+-- the piece keeps its rule, and the rest does not go on with it (after a number, no character that continues names)
 abbrev pub Stands : Piece → List ℕ → Type 0
 Stands (Blank c) rest = is_blank c ≡ true
 Stands (Comment cs) rest = (list_all is_in_line cs ≡ true) × Ends is_in_line rest
@@ -97,7 +97,7 @@ Stands (Letters c cs) rest = (starts_name c ≡ true) × (list_all is_xid_contin
 Stands (Digits value) rest = (value < 2 ^ 64) × Ends is_xid_continue rest
 Stands (Operator symbol) rest = (is_keyword symbol ≡ false) × IsLongest symbol rest
 
--- the symbol at the front of `<-> x` is no shorter one
+-- the symbol at the beginning of `<-> x` is no shorter one
 pub no_short_swap : ¬ (Stands (Operator symbols.Assign) (codes "> x"))
 no_short_swap stands = absurd (omega (arith, stands.1 symbols.Swap (codes " x") refl))
 
@@ -141,7 +141,7 @@ piece_tokens-operator = refl
 pub piece_tokens-blank : piece_tokens (Blank 32) first_place ≡ []
 piece_tokens-blank = refl
 
--- the text splits into these pieces, one behind the other, with these tokens; `rest` and its place are left
+-- the text splits into these pieces, one after the other, with these tokens; `rest` and its place are left
 abbrev pub Splits : List Piece → List ℕ → Pos → List Lexed → List ℕ → Pos → Type 0
 Splits [] cs at toks rest end = (cs ≡ rest) × (toks ≡ []) × (at ≡ end)
 Splits (piece ∷ pieces) cs at toks rest end =

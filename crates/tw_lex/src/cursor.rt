@@ -6,7 +6,7 @@ ghost use Rattle.std.specs.Str.{chars};
 ghost use Rattle.tw_text.specs.Places.{first_place};
 ghost use Rattle.tw_lex.specs.Scans.{seen};
 ghost use Rattle.tw_lex.specs.Tokens.{HasTokens};
-ghost use Rattle.tw_lex.specs.Cursors.{TokensFrom, TokensFrom-prop, HasCount, from_token, behind};
+ghost use Rattle.tw_lex.specs.Cursors.{TokensFrom, TokensFrom-prop, HasCount, from_token, after_first};
 
 use crate::Token;
 use crate::next::{Next, next_token};
@@ -83,7 +83,7 @@ impl<'t> Cursor<'t> {
     #[tactic(auto, unfolding(crate::specs::Left::left_of))]
     #[inline(never)]
     pub fn advance(&mut self)
-        ensures { left_of self.new ≡ behind (left_of self.old) }
+        ensures { left_of self.new ≡ after_first (left_of self.old) }
     {
         if let Some(_) = self.current {
             *self = Cursor::at(self.rest, self.left - 1);

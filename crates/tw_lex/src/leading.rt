@@ -3,7 +3,7 @@
 ghost use Rattle.std.specs.Prelude.{◌≡◌, ◌≢◌, ◌<◌, ℕ, List, [], ◌∷◌, length, IfSome};
 ghost use Rattle.std.specs.Option.{IfNone};
 ghost use Rattle.std.specs.Str.{chars};
-ghost use Rattle.tw_text.specs.Cuts.{Begins};
+ghost use Rattle.tw_text.specs.Suffixes.{Begins};
 
 use tw_text::first_char;
 
@@ -39,7 +39,7 @@ pub fn leading_char(text: &str) -> Option<(char, &str)>
     Some((first, rest))
 }
 
-/// What follows this character at the front of a text. `None` if the text does not begin with it.
+/// What follows this character at the beginning of a text. `None` if the text does not begin with it.
 #[inline(always)]
 pub fn after_char(text: &str, c: char) -> Option<&str>
     ensures some { IfSome result (λ rest. Begins text.now c rest.now) }

@@ -3,7 +3,7 @@
 ghost use Rattle.std.specs.Prelude.{◌≡◌, ℕ, List, true, false, IfSome};
 ghost use Rattle.std.specs.Option.{IfNone};
 ghost use Rattle.std.specs.Str.{chars};
-ghost use Rattle.tw_text.specs.Cuts.{Begins};
+ghost use Rattle.tw_text.specs.Suffixes.{Begins};
 ghost use Rattle.tw_lex.specs.declared.token.TokenKind.{TokenKind};
 ghost use Rattle.tw_lex.specs.Next.{IsNext, IsPassed};
 ghost use Rattle.tw_lex.specs.Scans.{Found, Lacks};
@@ -43,7 +43,7 @@ fn starts_name(c: char) -> bool
     }
 }
 
-/// The number, operator or delimiter at the front of a text, from its first character, which begins no name, and what follows that.
+/// The number, operator or delimiter at the beginning of a text, from its first character, which begins no name, and what follows that.
 #[inline(always)]
 fn scanned_mark<'t>(text: &'t str, first: char, following: &'t str) -> Option<Scanned<'t>>
     requires begins { Begins text.now first following.now }
@@ -59,7 +59,7 @@ fn scanned_mark<'t>(text: &'t str, first: char, following: &'t str) -> Option<Sc
     operator(text, first, following)
 }
 
-/// The token at the front of a text, from its first character and what follows that.
+/// The token at the beginning of a text, from its first character and what follows that.
 #[inline(always)]
 fn scanned<'t>(text: &'t str, first: char, following: &'t str) -> Option<Scanned<'t>>
     requires begins { Begins text.now first following.now }
@@ -107,7 +107,7 @@ pub enum Passed<'t> {
     Wrong(Pos),
 }
 
-/// What follows the token at the front of a text, and the number of the token's characters, from its first character and what
+/// What follows the token at the beginning of a text, and the number of the token's characters, from its first character and what
 /// follows that.
 #[inline(always)]
 fn after_scanned<'t>(text: &'t str, first: char, following: &'t str) -> Option<(&'t str, usize)>

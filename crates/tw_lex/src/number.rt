@@ -25,7 +25,7 @@ fn continues_name(text: &str) -> bool
     }
 }
 
-/// The number at the front of a text. `None` if the text begins with no digit, and if its digits break a rule: a leading
+/// The number at the beginning of a text. `None` if the text begins with no digit, and if its digits break a rule: a leading
 /// zero, a value above the greatest `u64`, or a character that continues names directly after them.
 #[inline(always)]
 pub fn number(text: &str) -> Option<Scanned<'_>>

@@ -3,10 +3,10 @@
 ghost use Rattle.std.specs.Prelude.{◌≡◌, ◌∷◌, [], Some, None, false, IfSome};
 ghost use Rattle.std.specs.Option.{IfNone};
 ghost use Rattle.std.specs.Str.{chars};
-ghost use Rattle.tw_text.specs.Cuts.{Begins, Follows};
+ghost use Rattle.tw_text.specs.Suffixes.{Begins, Follows};
 ghost use Rattle.tw_lex.specs.declared.symbol.Symbol.{Symbol};
 ghost use Rattle.tw_lex.specs.Scans.{Found, Lacks};
-ghost use Rattle.tw_lex.specs.Symbols.{symbol_text, symbols_from, find_front};
+ghost use Rattle.tw_lex.specs.Symbols.{symbol_text, symbols_from, find_prefix};
 ghost use Rattle.tw_lex.specs.Tokens.{Operator, starts_name};
 
 use crate::leading::after_char;
@@ -14,7 +14,7 @@ use crate::scanned::Scanned;
 use crate::{Symbol, TokenKind};
 use tw_text::text_after;
 
-/// The longest symbol at the front of a text that begins with `<`.
+/// The longest symbol at the beginning of a text that begins with `<`.
 #[inline(always)]
 fn less<'t>(text: &'t str, following: &'t str) -> Scanned<'t>
     requires begins { Begins text.now 60 following.now }
@@ -42,7 +42,7 @@ fn less<'t>(text: &'t str, following: &'t str) -> Scanned<'t>
     }
 }
 
-/// The symbol of two characters at the front of a text if the second one follows, and otherwise the symbol of the first one.
+/// The symbol of two characters at the beginning of a text if the second one follows, and otherwise the symbol of the first one.
 #[inline(always)]
 fn longer<'t>(
     text: &'t str,
@@ -73,7 +73,7 @@ fn longer<'t>(
     }
 }
 
-/// The operator or delimiter at the front of a text, as `operator` finds it; `None` too for some symbols that are not frequent.
+/// The operator or delimiter at the beginning of a text, as `operator` finds it; `None` too for some symbols that are not frequent.
 #[inline(always)]
 #[tactic(auto, unfolding(crate::specs::Symbols::symbols_from))]
 fn frequent<'t>(text: &'t str, first: char, following: &'t str) -> Option<Scanned<'t>>
@@ -100,9 +100,9 @@ fn frequent<'t>(text: &'t str, first: char, following: &'t str) -> Option<Scanne
 #[cold]
 #[inline(never)]
 fn front_symbol<'t>(text: &'t str, list: &[Symbol]) -> Option<(Symbol, &'t str)>
-    ensures found { IfSome result (λ found. find_front list.now (chars text.now) ≡ Some found.0) }
+    ensures found { IfSome result (λ found. find_prefix list.now (chars text.now) ≡ Some found.0) }
     ensures follows { IfSome result (λ found. Follows text.now (symbol_text found.0) found.1.now) }
-    ensures none { IfNone result (find_front list.now (chars text.now) ≡ None) }
+    ensures none { IfNone result (find_prefix list.now (chars text.now) ≡ None) }
 {
     for symbol in list {
         if let Some(rest) = text_after(text, symbol.text()) {
@@ -112,7 +112,7 @@ fn front_symbol<'t>(text: &'t str, list: &[Symbol]) -> Option<(Symbol, &'t str)>
     None
 }
 
-/// The operator or delimiter at the front of a text, from its first character, which begins no name, and what follows that.
+/// The operator or delimiter at the beginning of a text, from its first character, which begins no name, and what follows that.
 #[inline(always)]
 pub fn operator<'t>(text: &'t str, first: char, following: &'t str) -> Option<Scanned<'t>>
     requires begins { Begins text.now first following.now }

@@ -57,7 +57,7 @@ fn goes_on(run: Run, c: char) -> bool
     }
 }
 
-/// What follows the longest run at the front of a text whose first characters, so many, belong to it. `total` becomes the number of
+/// What follows the longest run at the beginning of a text whose first characters, so many, belong to it. `total` becomes the number of
 /// the run's characters: the result of a rare call stays in registers.
 #[cold]
 #[inline(never)]
@@ -80,7 +80,7 @@ fn after_more<'t>(text: &'t str, passed: usize, run: Run, total: &mut usize) -> 
     rest
 }
 
-/// What follows the longest run at the front of a text, and the number of the run's characters.
+/// What follows the longest run at the beginning of a text, and the number of the run's characters.
 #[inline(always)]
 pub fn after_run(text: &str, run: Run) -> (&str, usize)
     ensures { RunsTo (goes_on run) text.now result.0.now result.1 }

@@ -3,7 +3,7 @@
 ghost use Rattle.std.specs.Prelude.{◌≡◌, ◌<◌, ◌≤◌, ℕ, true, false, List, [], length, codes, IfSome};
 ghost use Rattle.std.specs.Option.{IfNone};
 ghost use Rattle.std.specs.Str.{chars};
-ghost use Rattle.tw_text.specs.Cuts.{Follows};
+ghost use Rattle.tw_text.specs.Suffixes.{Follows};
 ghost use Rattle.tw_lex.specs.Scans.{SplitsTo, Lacks, RunsTo};
 ghost use Rattle.tw_lex.specs.Tokens.{is_blank, is_in_line, Blank, Comment};
 
@@ -19,7 +19,7 @@ fn is_blank(c: char) -> bool
     c == ' ' || c == '\n' || c == '\t' || c == '\r'
 }
 
-/// The suffix after the spaces at the front of this one.
+/// The suffix after the spaces at the beginning of this one.
 #[inline(always)]
 fn after_gap(suffix: Suffix<'_>) -> Suffix<'_>
     ensures spaces { SplitsTo (chars suffix.entry.text.now) suffix.entry.at [] (chars result.text.now) result.at }
@@ -54,7 +54,7 @@ fn after_line<'t>(text: &'t str, count: &mut usize) -> &'t str
     rest
 }
 
-/// The suffix after the comment at the front of this one, from its newline on.
+/// The suffix after the comment at the beginning of this one, from its newline on.
 #[inline(always)]
 fn after_comment(suffix: Suffix<'_>) -> Option<Suffix<'_>>
     ensures some { IfSome result (λ found. SplitsTo (chars suffix.entry.text.now) suffix.entry.at [] (chars found.text.now) found.at) }
@@ -69,7 +69,7 @@ fn after_comment(suffix: Suffix<'_>) -> Option<Suffix<'_>>
     Some(suffix.past(count, rest))
 }
 
-/// The suffix after the character of white space or the comment at the front of this one.
+/// The suffix after the character of white space or the comment at the beginning of this one.
 #[inline(always)]
 fn after_space(suffix: Suffix<'_>) -> Option<Suffix<'_>>
     ensures some { IfSome result (λ found. SplitsTo (chars suffix.entry.text.now) suffix.entry.at [] (chars found.text.now) found.at) }
@@ -90,7 +90,7 @@ fn after_space(suffix: Suffix<'_>) -> Option<Suffix<'_>>
     after_comment(suffix)
 }
 
-/// The suffix after all white space and comments at the front of this one.
+/// The suffix after all white space and comments at the beginning of this one.
 #[inline(always)]
 pub fn after_spaces(suffix: Suffix<'_>) -> Suffix<'_>
     ensures spaces { SplitsTo (chars suffix.entry.text.now) suffix.entry.at [] (chars result.text.now) result.at }

@@ -27,7 +27,7 @@ impl<'t> Suffix<'t> {
         }
     }
 
-    /// The suffix behind so many characters of this one's first line.
+    /// The suffix after so many characters of this one's first line.
     pub fn past(self, count: usize, rest: &'t str) -> Suffix<'t>
         requires { count + length rest.now ≤ length self.text.now }
         ensures text { result.text.now ≡ rest.now }
@@ -42,7 +42,7 @@ impl<'t> Suffix<'t> {
         }
     }
 
-    /// The suffix behind a newline.
+    /// The suffix after a newline.
     pub fn next_line(self, rest: &'t str) -> Suffix<'t>
         requires { length rest.now < length self.text.now }
         ensures text { result.text.now ≡ rest.now }

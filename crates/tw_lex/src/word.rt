@@ -2,7 +2,7 @@
 
 ghost use Rattle.std.specs.Prelude.{◌≡◌, ℕ, true, List, ◌∷◌};
 ghost use Rattle.std.specs.Str.{chars};
-ghost use Rattle.tw_text.specs.Cuts.{Begins};
+ghost use Rattle.tw_text.specs.Suffixes.{Begins};
 ghost use Rattle.tw_lex.specs.Scans.{Found, word_kind};
 ghost use Rattle.tw_lex.specs.Symbols.{find_symbol, symbol_of, symbols_from};
 ghost use Rattle.tw_lex.specs.Tokens.{starts_name};
@@ -62,7 +62,7 @@ fn kind_of(text: &str, first: char) -> TokenKind
     }
 }
 
-/// The name or keyword at the front of a text, from its first character and what follows that.
+/// The name or keyword at the beginning of a text, from its first character and what follows that.
 #[inline(always)]
 pub fn word<'t>(text: &'t str, first: char, following: &'t str) -> Scanned<'t>
     requires begins { Begins text.now first following.now }

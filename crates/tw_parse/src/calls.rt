@@ -67,7 +67,7 @@ fn comma_name<'a>(cursor: &mut Cursor<'a>) -> Result<Name<'a>, ParseError>
     take_name(cursor)
 }
 
-/// A name that was read, and all that follow it behind commas.
+/// A name that was read, and all that follow it after commas.
 fn more_names<'a>(
     arena: &'a Arena,
     first: Name<'a>,

@@ -44,7 +44,7 @@ fn operator(cursor: &Cursor<'_>) -> Option<OpKind>
     None
 }
 
-/// What stands behind the first atom of an expression: nothing, or an operator and an atom.
+/// What follows the first atom of an expression: nothing, or an operator and an atom.
 #[tactic(auto, unfolding(crate::specs::reading::Terms::op_at))]
 fn operation<'a>(
     arena: &'a Arena,
@@ -88,7 +88,7 @@ fn negation<'a>(
     })
 }
 
-/// A pair of atoms, behind its `(`.
+/// A pair of atoms, after its `(`.
 #[tactic(auto, unfolding(crate::specs::reading::Terms::two_at))]
 fn two<'a>(
     arena: &'a Arena,

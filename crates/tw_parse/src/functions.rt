@@ -73,7 +73,7 @@ fn comma_param<'a>(
     param(arena, cursor, room)
 }
 
-/// A parameter that was read, and all that follow it behind commas.
+/// A parameter that was read, and all that follow it after commas.
 fn more_params<'a>(
     arena: &'a Arena,
     first: Param<'a>,

@@ -29,7 +29,7 @@ fn skip(cursor: &mut Cursor<'_>, count: usize)
     }
 }
 
-/// The place of the first of so many last tokens, or the place behind the text.
+/// The place of the first of so many last tokens, or the place after the text.
 fn place_of(text: &str, count: usize, left: usize) -> Pos
     requires short { length text.now < 4294967295 }
     requires counted { HasCount (chars text.now) count }
@@ -106,7 +106,7 @@ fn read<'a>(arena: &'a Arena, bytes: &'a [u8]) -> Result<&'a Program<'a>, Fault>
 
 /// The syntax tree of a source, in the arena. Refused with its place, the first fault from the left: `Utf8` at the first
 /// byte that begins no character; then `Token` where characters are no token; then `Syntax` at the first token that does
-/// not go on with a program, or behind the last character where one is missing, and `Limit(Nesting)` with 65 and 64 at the
+/// not go on with a program, or after the last character where one is missing, and `Limit(Nesting)` with 65 and 64 at the
 /// token that opens the 65th bracket. `Fault::Memory` where memory is wanting; the arena may then have grown.
 pub fn parse<'a>(
     _alloc: Global,

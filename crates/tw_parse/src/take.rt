@@ -1,4 +1,4 @@
-//! What the rules of the grammar look at and take at the front of the tokens that are left.
+//! What the rules of the grammar look at and take at the beginning of the tokens that are left.
 
 ghost use Rattle.std.specs.Prelude.{◌≡◌, ◌-◌, suc, ℕ, List, ◌==◌, length, IfOk};
 ghost use Rattle.tw_syntax.specs.Names.{name_tree};

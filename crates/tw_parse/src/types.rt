@@ -60,7 +60,7 @@ fn ptr<'a>(
     Ok(build_written(arena, place, WrittenKind::Ptr(to))?)
 }
 
-/// A pair of types, behind its `(`.
+/// A pair of types, after its `(`.
 #[cycle(types)]
 #[tactic(auto, unfolding(crate::specs::reading::Terms::pair_with))]
 fn pair<'a>(

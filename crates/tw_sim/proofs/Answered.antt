@@ -3,7 +3,7 @@ use Rattle.std.proofs.Common.{◌≡◌, ◌∙◌, ap, sym, ℕ, Bool, List, []
 use Rattle.std.proofs.lemmas.List.{map-append}
 use Rattle.tw_gate.specs.Gates.{PlainGate, act}
 use Rattle.tw_sim.specs.BitLines.{bit_lines, HaveWires, AreLinesOf}
-use Rattle.tw_sim.proofs.Laws.{bit_lines-front, bit_lines-tells}
+use Rattle.tw_sim.proofs.Laws.{bit_lines-prefix, bit_lines-injective}
 use Rattle.tw_sim.proofs.Reading.{bit_lines-append, HaveWires-append}
 
 -- the lines before the rest are answered
@@ -16,7 +16,7 @@ pub record AreAnswered (wires : ℕ) (gates : List PlainGate) (text rest answer 
 -- right lines follow them
 pub right_left : {wires : ℕ} {gates : List PlainGate} {text rest answer : List ℕ} → AreAnswered wires gates text rest answer → (states : List (List Bool)) × AreLinesOf wires text states → (left : List (List Bool)) × AreLinesOf wires rest left
 right_left {wires} {rest} begun right =
-    let split = bit_lines-front wires right.0 begun.states rest right.1.wide begun.wide (sym right.1.spelled ∙ begun.spelled) in (
+    let split = bit_lines-prefix wires right.0 begun.states rest right.1.wide begun.wide (sym right.1.spelled ∙ begun.spelled) in (
       split.0,
       record { spelled = split.3; wide = split.2; few = omega (arith, right.1.few, ap length split.1, length-append begun.states split.0) },
     )
@@ -44,5 +44,5 @@ pub answered_all : {wires : ℕ} {gates : List PlainGate} {text rest answer : Li
     (states : List (List Bool)) × AreLinesOf wires text states × (answer ≡ bit_lines (map (act gates) states))
 answered_all {wires} {text} begun right none =
     let spelled : text ≡ bit_lines begun.states = begun.spelled ∙ ap (λ rest. bit_lines begun.states ++ rest) none ∙ append-nil (bit_lines begun.states) in
-    let same = bit_lines-tells wires begun.states right.0 begun.wide right.1.wide (sym spelled ∙ right.1.spelled) in
+    let same = bit_lines-injective wires begun.states right.0 begun.wide right.1.wide (sym spelled ∙ right.1.spelled) in
     (begun.states, record { spelled = spelled; wide = begun.wide; few = omega (arith, right.1.few, ap length same) }, begun.answered)

@@ -7,7 +7,7 @@ use Rattle.std.proofs.lemmas.Nat.Bits.{bit_at-zero}
 use Rattle.tw_gate.specs.Gates.{PlainGate, act}
 use Rattle.tw_sim.specs.BitLines.{bit_line, bit_lines, HaveWires, AreLinesOf}
 use Rattle.tw_sim.specs.Lanes.{number_bit, lane, lanes, LanesActed}
-use Rattle.tw_sim.proofs.Laws.{bit_lines-front}
+use Rattle.tw_sim.proofs.Laws.{bit_lines-prefix}
 use Rattle.tw_sim.proofs.Reading.{bit_lines-append}
 
 lanes-more : (count : ℕ) (words : List ℕ) → lanes (count + 1) words ≡ lanes count words ++ lane count words ∷ []
@@ -62,7 +62,7 @@ loaded_none text words n none =
 pub loaded_next : {text rest words : List ℕ} {count : ℕ} (wires : ℕ) → wires ≡ length words → AreLoaded text rest words count → (states : List (List Bool)) × AreLinesOf wires text states → rest ≢ [] →
     (bits : List Bool) × (behind : List ℕ) × (length bits ≡ length words) × (rest ≡ bit_line bits ++ behind)
 loaded_next {rest} {words} {count} wires size loaded right some =
-    let split = bit_lines-front wires right.0 (lanes count words) rest right.1.wide (HaveWires-lanes wires count words size) (sym right.1.spelled ∙ loaded.read) in
+    let split = bit_lines-prefix wires right.0 (lanes count words) rest right.1.wide (HaveWires-lanes wires count words size) (sym right.1.spelled ∙ loaded.read) in
     first_line split.0 split.2 split.3
   where
     first_line : (left : List (List Bool)) → HaveWires wires left → rest ≡ bit_lines left → (bits : List Bool) × (behind : List ℕ) × (length bits ≡ length words) × (rest ≡ bit_line bits ++ behind)

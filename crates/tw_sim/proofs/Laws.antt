@@ -26,26 +26,26 @@ bit_line-some [] rest e = cc
 bit_line-some (b ∷ bits) rest e = cc
 
 -- right lines that are a prefix of right lines are the first of them
-pub bit_lines-front : (wires : ℕ) (states front : List (List Bool)) (rest : List ℕ) → HaveWires wires states → HaveWires wires front → bit_lines states ≡ bit_lines front ++ rest →
+pub bit_lines-prefix : (wires : ℕ) (states front : List (List Bool)) (rest : List ℕ) → HaveWires wires states → HaveWires wires front → bit_lines states ≡ bit_lines front ++ rest →
     (left : List (List Bool)) × (states ≡ front ++ left) × HaveWires wires left × (rest ≡ bit_lines left)
-bit_lines-front wires states [] rest wide wide' e = (states, refl, wide, sym e)
-bit_lines-front wires [] (bits ∷ front) rest wide wide' e = absurd (bit_line-some bits _ (e ∙ append_assoc (bit_line bits) (bit_lines front) rest))
-bit_lines-front wires (first ∷ states) (bits ∷ front) rest wide wide' e =
+bit_lines-prefix wires states [] rest wide wide' e = (states, refl, wide, sym e)
+bit_lines-prefix wires [] (bits ∷ front) rest wide wide' e = absurd (bit_line-some bits _ (e ∙ append_assoc (bit_line bits) (bit_lines front) rest))
+bit_lines-prefix wires (first ∷ states) (bits ∷ front) rest wide wide' e =
     let both = bit_line-tells first bits _ _ (wide.0 ∙ sym wide'.0) (e ∙ append_assoc (bit_line bits) (bit_lines front) rest) in
-    let more = bit_lines-front wires states front rest wide.1 wide'.1 both.1 in
+    let more = bit_lines-prefix wires states front rest wide.1 wide'.1 both.1 in
     let same = both.0 in
     let others = more.1 in
     (more.0, (cc), more.2, more.3)
 
 -- a text determines its states
-pub bit_lines-tells : (wires : ℕ) (states other : List (List Bool)) → HaveWires wires states → HaveWires wires other → bit_lines states ≡ bit_lines other → states ≡ other
-bit_lines-tells wires [] [] wide wide' e = refl
-bit_lines-tells wires [] (bits ∷ other) wide wide' e = absurd (bit_line-some bits _ e)
-bit_lines-tells wires (bits ∷ states) [] wide wide' e = absurd (bit_line-some bits _ (sym e))
-bit_lines-tells wires (bits ∷ states) (bits' ∷ other) wide wide' e =
+pub bit_lines-injective : (wires : ℕ) (states other : List (List Bool)) → HaveWires wires states → HaveWires wires other → bit_lines states ≡ bit_lines other → states ≡ other
+bit_lines-injective wires [] [] wide wide' e = refl
+bit_lines-injective wires [] (bits ∷ other) wide wide' e = absurd (bit_line-some bits _ e)
+bit_lines-injective wires (bits ∷ states) [] wide wide' e = absurd (bit_line-some bits _ (sym e))
+bit_lines-injective wires (bits ∷ states) (bits' ∷ other) wide wide' e =
     let both = bit_line-tells bits bits' _ _ (wide.0 ∙ sym wide'.0) e in
     let same = both.0 in
-    let others = bit_lines-tells wires states other wide.1 wide'.1 both.1 in
+    let others = bit_lines-injective wires states other wide.1 wide'.1 both.1 in
     cc
 
 -- if no line follows, there are no more right lines at the start
@@ -68,10 +68,10 @@ some_left (bits ∷ left) rest is some = omega arith
 -- right lines are not refused
 pub right_not_refused : (wires : ℕ) (text : List ℕ) (states : List (List Bool)) (why : LinesFault) → AreLinesOf wires text states → ¬ AreRefused wires text why
 right_not_refused wires text states why right (WrongLine front rest spelled wide few some none is) =
-    let split = bit_lines-front wires states front rest right.wide wide (sym right.spelled ∙ spelled) in
+    let split = bit_lines-prefix wires states front rest right.wide wide (sym right.spelled ∙ spelled) in
     no_line_left wires split.0 rest split.2 split.3 some none
 right_not_refused wires text states why right (TooMany front rest spelled wide many some is) =
-    let split = bit_lines-front wires states front rest right.wide wide (sym right.spelled ∙ spelled) in
+    let split = bit_lines-prefix wires states front rest right.wide wide (sym right.spelled ∙ spelled) in
     omega (arith, right.few, many, some_left split.0 rest split.3 some, ap length split.1, length-append front split.0)
 
 -- a text is refused for at most one reason

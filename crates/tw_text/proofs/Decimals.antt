@@ -31,8 +31,8 @@ pub decimal-delimited : (n m c d : ℕ) (xs ys : List ℕ) → n < 2 ^ 64 → m 
 decimal-delimited n m c d xs ys small small' none none' e =
     let same : decimal n ≡ decimal m = sym (digit_run-decimal n c xs small none) ∙ ap digit_run e ∙ digit_run-decimal m d ys small' none' in
     let text = decimal n ++ c ∷ xs in
-    let behind = front_rest text (decimal n) (c ∷ xs) refl in
-    let behind' = front_rest text (decimal m) (d ∷ ys) e in
+    let suffix = front_rest text (decimal n) (c ∷ xs) refl in
+    let suffix' = front_rest text (decimal m) (d ∷ ys) e in
     (decimal_injective n m small small' same, cc)
 
 -- a digit after bytes of the run belongs to the run

@@ -1,4 +1,4 @@
-pub mod Cuts
+pub mod Suffixes
 pub mod Decimals
-pub mod Fronts
+pub mod Prefixes
 pub mod Wholes

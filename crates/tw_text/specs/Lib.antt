@@ -1,6 +1,6 @@
-pub mod Cuts
+pub mod Suffixes
 pub mod Digits
-pub mod Front
+pub mod Prefix
 pub mod Limits
 pub mod Places
 pub mod Refusals

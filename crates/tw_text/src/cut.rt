@@ -2,7 +2,7 @@
 ghost use Rattle.std.specs.Prelude.{◌≡◌, ◌≢◌, ◌+◌, ◌++◌, ℕ, List, [], length, IfSome};
 ghost use Rattle.std.specs.Option.{IfNone};
 ghost use Rattle.std.specs.Str.{chars};
-ghost use Rattle.tw_text.specs.Cuts.{Begins, EndsWith, Follows};
+ghost use Rattle.tw_text.specs.Suffixes.{Begins, EndsWith, Follows};
 
 /// The first character of a text, and the suffix after it. `None` for the empty text.
 pub fn first_char(text: &str) -> Option<(char, &str)>
@@ -24,9 +24,9 @@ pub fn before<'t>(text: &'t str, rest: &str) -> &'t str
 }
 
 /// The suffix after this prefix of a text. `None` if the text does not begin with it.
-pub fn text_after<'t>(text: &'t str, front: &str) -> Option<&'t str>
-    ensures some { IfSome result (λ rest. Follows text.now front.now rest.now) }
-    ensures none { IfNone result ((mid : List ℕ) → chars text.now ≢ chars front.now ++ mid) }
+pub fn text_after<'t>(text: &'t str, prefix: &str) -> Option<&'t str>
+    ensures some { IfSome result (λ rest. Follows text.now prefix.now rest.now) }
+    ensures none { IfNone result ((mid : List ℕ) → chars text.now ≢ chars prefix.now ++ mid) }
 {
-    text.strip_prefix(front)
+    text.strip_prefix(prefix)
 }

@@ -7,9 +7,9 @@ mod cut;
 mod decimal;
 mod diagnostic;
 mod digits;
-mod front;
 mod limits;
 mod place;
+mod prefix;
 mod refusal;
 #[cfg(test)]
 mod tests;
@@ -19,11 +19,11 @@ pub use cut::{before, first_char, text_after};
 pub use decimal::read_decimal;
 pub use diagnostic::{Diagnostic, DiagnosticLine};
 pub use digits::split_digits;
-pub use front::after;
 pub use limits::{
     CONTROLS_LIMIT, DEPTH_LIMIT, INPUT_LIMIT, LINES_LIMIT, NESTING_LIMIT, STATEMENTS_LIMIT,
     STATES_LIMIT, WIRES_LIMIT,
 };
 pub use place::{Pos, place_after};
+pub use prefix::after;
 pub use refusal::{Arena, Counted, Fault, Refusal, Rule};
 pub use whole::whole_decimal;

@@ -36,13 +36,13 @@ fn splits_digits_from_what_follows(rt: HostRuntime) {
         (b"x7", b"", b"x7"),
         (b"007 8", b"007", b" 8"),
     ];
-    for (bytes, digits, behind) in table {
-        assert_eq!(rt; split_digits(bytes), (digits, behind));
+    for (bytes, digits, rest) in table {
+        assert_eq!(rt; split_digits(bytes), (digits, rest));
     }
 }
 
 #[test]
-fn finds_what_stands_behind_a_front(rt: HostRuntime) {
+fn finds_the_suffix_after_a_prefix(rt: HostRuntime) {
     let bytes = b"wires 7\n".as_slice();
     assert_eq!(rt; after(bytes, b"wires "), Some(b"7\n".as_slice()));
     assert_eq!(rt; after(bytes, b""), Some(bytes));

@@ -10,7 +10,7 @@ use Rattle.tw_syntax.specs.Names.{NameTree, PathTree}
 use Rattle.tw_syntax.specs.Types.{WrittenTree, UnitType, UintType, BoolType, PairType, PtrType, NamedType}
 use Rattle.tw_syntax.specs.Terms.{AtomTree, PlaceAtom, NumberAtom, TrueAtom, FalseAtom, UnitAtom, NullAtom, ZeroAtom, ExprTree, OneExpr, TwoExpr, NotExpr, OpExpr, BoundTree, FixedBound, SameBound, LessBound, RhsTree, ExprRhs, CallRhs, AllocRhs}
 use Rattle.tw_lex.specs.Tokens.{Lexed, name_at, sign_at}
-use Rattle.tw_lex.specs.Cursors.{behind}
+use Rattle.tw_lex.specs.Cursors.{after_first}
 use Rattle.tw_parse.specs.reading.Steps.{Reader, ◌>>=◌, leads, leads_name, leads_number, place_at, take_symbol, take_open, bracketed_with, take_name, take_number, take_bound_number, take_component, all_at}
 
 -- "<" type ">"
@@ -141,7 +141,7 @@ op_of ts =
 abbrev pub operand_at : Option OpKind → Pos → AtomTree → ℕ → Reader ExprTree
 operand_at None at left room ts = Ok (OneExpr at left, ts)
 operand_at (Some op) at left room ts = do
-  right ← atom_at (suc room) (behind ts)
+  right ← atom_at (suc room) (after_first ts)
   Ok (OpExpr at op left right.0, right.1)
 
 unfoldable pub op_at : Pos → AtomTree → ℕ → Reader ExprTree
@@ -233,7 +233,7 @@ call_at room ts = do
 
 -- whether the tokens begin with a call: a name, and then "[" or "("
 abbrev pub leads_call : List Lexed → Bool
-leads_call ts = leads_name ts && (leads symbols.OpenBracket (behind ts) || leads symbols.OpenParen (behind ts))
+leads_call ts = leads_name ts && (leads symbols.OpenBracket (after_first ts) || leads symbols.OpenParen (after_first ts))
 
 -- "alloc" "<" type ">"
 unfoldable pub alloc_at : ℕ → Reader RhsTree

@@ -1,6 +1,6 @@
 use Rattle.std.proofs.Common.{◌≡◌, ◌∙◌, ap, sym, ℕ, List, [], ◌∷◌, length, arith}
-use Rattle.tw_text.specs.Front.{after}
-use Rattle.tw_text.proofs.Fronts.{after-append}
+use Rattle.tw_text.specs.Prefix.{after}
+use Rattle.tw_text.proofs.Prefixes.{after-append}
 use Rattle.tw_gatetext.proofs.DigitRuns.{none_after}
 use Rattle.tw_gatetext.proofs.gate_words.after_byte.Goals as goal
 use Rattle.tw_gatetext.proofs.gate_words.after_byte.Goals.{in_default-via-in-Some+else-first-byte, in_default-via-in_default}

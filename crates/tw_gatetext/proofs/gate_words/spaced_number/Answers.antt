@@ -1,6 +1,6 @@
 use Rattle.std.proofs.Common.{rules, arith, ◌≡◌, ◌∙◌, ap, sym, ℕ, ◌<◌, ◌^◌, decimal, ◌++◌, codes, Some, None, Result, Ok, Err}
 use Rattle.std.specs.Result.{OkIff, result_ok}
-use Rattle.tw_text.proofs.Fronts.{append-after}
+use Rattle.tw_text.proofs.Prefixes.{append-after}
 use Rattle.tw_gatetext.proofs.Delimited.{ends}
 use Rattle.tw_gatetext.proofs.DigitRuns.{not_after, run-told, number-told}
 use Rattle.tw_gatetext.proofs.SpacedNumbers.{space-behind}

@@ -1,5 +1,5 @@
 use Rattle.std.proofs.Common.{◌≡◌, ◌∙◌, ap, sym, List, ℕ, ◌++◌, arith, rules}
-use Rattle.tw_text.proofs.Fronts.{append-after}
+use Rattle.tw_text.proofs.Prefixes.{append-after}
 use Rattle.tw_gatetext.proofs.DigitRuns.{not_after}
 use Rattle.tw_gatetext.proofs.HeaderLines.{behind_front, number_read}
 use Rattle.tw_gatetext.proofs.header.counted_number.Goals as goal

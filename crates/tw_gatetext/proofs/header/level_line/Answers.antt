@@ -1,6 +1,6 @@
 use Rattle.std.proofs.Common.{◌∙◌, ap, sym, List, ℕ, ◌++◌, codes}
 use Rattle.std.proofs.lemmas.Option.{IfSome_then}
-use Rattle.tw_text.proofs.Fronts.{append-after}
+use Rattle.tw_text.proofs.Prefixes.{append-after}
 use Rattle.tw_gatetext.proofs.DigitRuns.{not_after}
 use Rattle.tw_gatetext.proofs.HeaderLines.{IfNone_then, behind_front, level_steps, no_level}
 use Rattle.tw_gatetext.proofs.header.level_line.Goals as goal

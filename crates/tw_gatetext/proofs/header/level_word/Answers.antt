@@ -1,5 +1,5 @@
 use Rattle.std.proofs.Common.{sym, codes}
-use Rattle.tw_text.proofs.Fronts.{append-after}
+use Rattle.tw_text.proofs.Prefixes.{append-after}
 use Rattle.tw_gatetext.proofs.HeaderLines.{no_level_word}
 use Rattle.tw_gatetext.proofs.header.level_word.Goals as goal
 

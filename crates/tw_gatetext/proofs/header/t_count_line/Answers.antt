@@ -1,6 +1,6 @@
 use Rattle.std.proofs.Common.{◌∙◌, ap, sym, List, ℕ, ◌++◌, codes}
 use Rattle.std.proofs.lemmas.Option.{IfSome_then}
-use Rattle.tw_text.proofs.Fronts.{append-after}
+use Rattle.tw_text.proofs.Prefixes.{append-after}
 use Rattle.tw_gatetext.proofs.DigitRuns.{not_after}
 use Rattle.tw_gatetext.proofs.HeaderLines.{IfNone_then, behind_front, t_count_steps, no_t_count}
 use Rattle.tw_gatetext.proofs.header.t_count_line.Goals as goal

@@ -1,5 +1,5 @@
 use Rattle.std.proofs.Common.{sym, refl}
-use Rattle.tw_text.proofs.Fronts.{append-after}
+use Rattle.tw_text.proofs.Prefixes.{append-after}
 use Rattle.tw_gatetext.specs.Reading.{limit_seen}
 use Rattle.tw_gatetext.proofs.Limits.{no_word, no_number, within_limit}
 use Rattle.tw_gatetext.proofs.line_fault.refused_line.Goals as goal

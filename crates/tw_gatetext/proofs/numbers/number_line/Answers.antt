@@ -1,5 +1,5 @@
 use Rattle.std.proofs.Common.{rules, ◌∙◌, ap, sym, decimal, ◌++◌, [], codes}
-use Rattle.tw_text.proofs.Fronts.{append-after}
+use Rattle.tw_text.proofs.Prefixes.{append-after}
 use Rattle.tw_gatetext.proofs.Delimited.{ends}
 use Rattle.tw_gatetext.proofs.DigitRuns.{not_after, run-told, number-told}
 use Rattle.tw_gatetext.proofs.numbers.number_line.Goals as goal

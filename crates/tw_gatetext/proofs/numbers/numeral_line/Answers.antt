@@ -1,5 +1,5 @@
 use Rattle.std.proofs.Common.{◌∙◌, ap, sym, ◌++◌, codes}
-use Rattle.tw_text.proofs.Fronts.{append-after}
+use Rattle.tw_text.proofs.Prefixes.{append-after}
 use Rattle.tw_gatetext.proofs.DigitRuns.{not_after, numeral-read, numeral-shown, numeral-behind}
 use Rattle.tw_gatetext.proofs.numbers.numeral_line.Goals as goal
 

@@ -1,6 +1,6 @@
 use Rattle.std.proofs.Common.{◌∙◌, ap, sym, get_or, arith}
 use Rattle.std.proofs.lemmas.Str.{lead_after_ascii}
-use Rattle.tw_lex.proofs.AsciiFronts.{nothing, something, ascii_begins}
+use Rattle.tw_lex.proofs.AsciiPrefixes.{nothing, something, ascii_begins}
 use Rattle.tw_lex.proofs.leading.leading_char.Goals as goal
 
 pub returns-then-is_empty-clause-none : goal.returns-then-is_empty-clause-none

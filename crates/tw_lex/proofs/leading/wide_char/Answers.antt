@@ -1,4 +1,4 @@
-use Rattle.tw_lex.proofs.AsciiFronts.{not_nothing}
+use Rattle.tw_lex.proofs.AsciiPrefixes.{not_nothing}
 use Rattle.tw_lex.proofs.leading.wide_char.Goals as goal
 
 pub unreachable-requires : goal.unreachable-requires

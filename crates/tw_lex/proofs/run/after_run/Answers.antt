@@ -1,7 +1,7 @@
 use Rattle.std.proofs.Common.{◌∙◌, sym, arith}
 use Rattle.std.proofs.lemmas.Str.{IsCharBoundary-start, IsCharBoundary-after_ascii}
 use Rattle.tw_lex.specs.Scans.{goes_on}
-use Rattle.tw_lex.proofs.AsciiFronts.{ascii_at, run_at_end, run_before}
+use Rattle.tw_lex.proofs.AsciiPrefixes.{ascii_at, run_at_end, run_before}
 use Rattle.tw_lex.proofs.Runs.{runs_none, runs_more}
 use Rattle.tw_lex.proofs.run.after_run.Goals.{then-loop-count-test+then-bytes-count-lt128+else-goes_on, then-loop-count-test+else-bytes-count-lt128, else-loop-count-test, else-count-bytes-via-then-count-bytes+else-bytes-count-ge128, else-count-bytes-via-else-count-bytes}
 use Rattle.tw_lex.proofs.run.after_run.Goals as goal

@@ -1,12 +1,12 @@
 use Rattle.std.proofs.Common.{◌∙◌, ap, sym, ◌∷◌}
 use Rattle.std.specs.Str.{chars}
 use Rattle.std.proofs.lemmas.List.{append_cancel_right}
-use Rattle.tw_text.proofs.Cuts.{ends_with_both}
+use Rattle.tw_text.proofs.Suffixes.{ends_with_both}
 use Rattle.tw_lex.proofs.Pieces.{found_word}
 use Rattle.tw_lex.proofs.word.word.Goals as goal
 
 pub before-requires : goal.before-requires
-before-requires c = ends_with_both c.args.text.now c.args.following.now _ c.requires.begins.behind c.after_run-count.ensures.runs.behind
+before-requires c = ends_with_both c.args.text.now c.args.following.now _ c.requires.begins.suffix c.after_run-count.ensures.runs.suffix
 
 pub kind_of-requires : goal.kind_of-requires
 kind_of-requires c =

@@ -2,7 +2,7 @@ use Rattle.std.proofs.Common.{◌≡◌, ◌∙◌, sym, inr, Result, Err}
 use Rattle.std.specs.Result.{IsErrAnd}
 use Rattle.std.proofs.lemmas.Result.{err_from_is_err_and}
 use Rattle.tw_sim.specs.declared.lines.LinesFault.{LinesFault}
-use Rattle.tw_sim.proofs.Laws.{bit_lines-tells, right_not_refused, one_reason}
+use Rattle.tw_sim.proofs.Laws.{bit_lines-injective, right_not_refused, one_reason}
 use Rattle.tw_sim.proofs.answer.simulate.Goals as goal
 
 -- the fault that `?` returns is the one that came
@@ -27,7 +27,7 @@ returns-in_err-check_lines-clause-one_refusal c = λ why is ample other refused.
     ∙ sym (handed_on c.from_residual.result _ why c.from_residual.ensures.1 is)
 
 pub returns-in-Ok-clause-only : goal.returns-in-Ok-clause-only
-returns-in-Ok-clause-only c = λ states other right right'. bit_lines-tells c.args.wires states other right.wide right'.wide (sym right.spelled ∙ right'.spelled)
+returns-in-Ok-clause-only c = λ states other right right'. bit_lines-injective c.args.wires states other right.wide right'.wide (sym right.spelled ∙ right'.spelled)
 
 pub returns-in-Ok-clause-accepted : goal.returns-in-Ok-clause-accepted
 returns-in-Ok-clause-accepted c = λ why. right_not_refused c.args.wires c.args.text.now c.in_ok-check_lines.ensures.right.0 why c.in_ok-check_lines.ensures.right.1

@@ -1,4 +1,4 @@
-use Rattle.tw_text.proofs.Cuts.{boundary, spelled_apart}
+use Rattle.tw_text.proofs.Suffixes.{boundary, spelled_apart}
 use Rattle.tw_text.proofs.cut.before.Goals as goal
 
 pub split_at-requires : goal.split_at-requires

@@ -1,4 +1,4 @@
-use Rattle.tw_text.proofs.Cuts.{begins}
+use Rattle.tw_text.proofs.Suffixes.{begins}
 use Rattle.tw_text.proofs.cut.first_char.Goals as goal
 
 pub returns-clause-some : goal.returns-clause-some

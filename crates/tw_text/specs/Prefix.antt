@@ -4,12 +4,12 @@ use Rattle.std.specs.Prelude.{◌≡◌, ◌==◌, ℕ, if◌then◌else◌, Lis
 -- the suffix after this prefix, if the bytes begin with it; unfoldable, as it would open over each literal otherwise
 unfoldable pub after : List ℕ → List ℕ → Option (List ℕ)
 after [] bytes = Some bytes
-after (c ∷ front) [] = None
-after (c ∷ front) (byte ∷ bytes) = if byte == c then after front bytes else None
+after (c ∷ prefix) [] = None
+after (c ∷ prefix) (byte ∷ bytes) = if byte == c then after prefix bytes else None
 
-pub after-front : after (codes "wires ") (codes "wires 7\n") ≡ Some (codes "7\n")
+pub after-prefix : after (codes "wires ") (codes "wires 7\n") ≡ Some (codes "7\n")
 unfolding after
-after-front = refl
+after-prefix = refl
 
 pub after-other : after (codes "gates ") (codes "wires 7\n") ≡ None
 unfolding after

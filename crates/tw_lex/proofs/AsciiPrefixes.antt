@@ -5,8 +5,8 @@ use Rattle.std.proofs.lemmas.Bool.Decides.{Decides-eqb}
 use Rattle.std.proofs.lemmas.List.{drop_more}
 use Rattle.std.proofs.lemmas.Str.{chars-nil, encode_ascii, encodes-chars, IsUtf8-drop}
 use Rattle.std.proofs.Math.ListN.{drop_of_length-le}
-use Rattle.tw_text.specs.Cuts.{Begins}
-use Rattle.tw_text.proofs.Cuts.{begins}
+use Rattle.tw_text.specs.Suffixes.{Begins}
+use Rattle.tw_text.proofs.Suffixes.{begins}
 use Rattle.tw_lex.specs.Symbols.{starts_with}
 use Rattle.tw_lex.specs.Scans.{Runs, RunsTo}
 
