@@ -26,7 +26,7 @@ use Rattle.tower.specs.Ending.{of_source, of_gates, of_lines, Did, Printed}
 
 module _ {K : Type 0} (taken : K → Option (List ℕ)) (faults : K → ℕ) where
   -- a command that gave this error did what belongs to it
-  as_error : (old new : K) (result : Result (Unit {0}) Unanswered) (error : Unanswered) (IsAnswer : Outcome → Type 0) → IsErrAnd result (λ e. e ≡ error) → Did taken faults old new (Err error) IsAnswer → Did taken faults old new result IsAnswer
+  pub as_error : (old new : K) (result : Result (Unit {0}) Unanswered) (error : Unanswered) (IsAnswer : Outcome → Type 0) → IsErrAnd result (λ e. e ≡ error) → Did taken faults old new (Err error) IsAnswer → Did taken faults old new result IsAnswer
   as_error old new (Ok done) error IsAnswer is did = absurd is
   as_error old new (Err e) error IsAnswer is did = subst (λ (u : Unanswered). Did taken faults old new (Err u) IsAnswer) (sym is) did
 

@@ -1,5 +1,6 @@
 pub mod Bools
 pub mod Binds
+pub mod Checks
 pub mod Choices
 pub mod Wanted
 pub mod OneRequest

@@ -6,6 +6,12 @@ use Rattle.tw_text.specs.declared.diagnostic.Diagnostic.TheVariants as diagnosti
 use Rattle.tw_text.specs.declared.limits.TheConstants.{INPUT_LIMIT}
 use Rattle.tw_syntax.specs.Programs.{FunTree, FunDecl, ProgramTree}
 use Rattle.tw_parse.proofs.Sources as sources
+use Rattle.tw_types.specs.Types.{Widths}
+use Rattle.tw_resolve.specs.Programs.{IsWellTyped, IsRefused}
+use Rattle.tw_resolve.proofs.Refusals.{one_refusal, typed_not_refused}
+use Rattle.tw_check.proofs.RightDecls.{right_exactly_if_none_broken}
+use Rattle.std.proofs.Math.Logic.{∥∥₁_elim}
+use Rattle.std.proofs.Props.{props}
 use Rattle.tw_gate.specs.Gates.{act}
 use Rattle.tw_gatetext.specs.Text.{File, file_text}
 use Rattle.tw_gatetext.specs.Files.{BeginsWith}
@@ -17,11 +23,12 @@ use Rattle.tw_state.specs.Programs.{Function}
 use Rattle.tw_state.specs.FromTrees.{function_denoted}
 use Rattle.tower.specs.declared.ending.Unanswered.TheVariants as unanswered
 use Rattle.tower.specs.Ending.{of_gates, of_lines}
-use Rattle.tower.specs.Requests.{Request, Format, Compile, Simulate, Invert, FileRequest}
+use Rattle.tower.specs.Requests.{Request, Format, Check, Compile, Simulate, Invert, FileRequest}
 use Rattle.tower.specs.Outcomes.{Outcome, Prints, Refuses}
 use Rattle.tower.specs.Sources.{SourceAnswer, OnTree, NoProgram}
 use Rattle.tower.specs.GateInputs.{GatesAnswer, OnPrefix, WrongLine, PastLimit}
 use Rattle.tower.specs.FirstTree.{IsFirstTree}
+use Rattle.tower.specs.Check.{CheckAnswer, Accepted, IllTyped, NotRight}
 use Rattle.tower.specs.Format.{FormatAnswer}
 use Rattle.tower.specs.Compile.{CompileAnswer, Built, NotBuilt, file_of}
 use Rattle.tower.specs.Invert as invert
@@ -50,6 +57,22 @@ one_function tree function other x y =
 
 one_format : (tree : ProgramTree) (outcome other : Outcome) → FormatAnswer tree outcome → FormatAnswer tree other → outcome ≡ other
 one_format tree outcome other x y = x ∙ sym y
+
+-- a program is well-typed, or it has a refusal
+not_both : (widths : Widths) (tree : ProgramTree) (refusal : Refusal) → ∥ IsWellTyped widths tree ∥₁ → IsRefused widths tree refusal → ⊥
+not_both widths tree refusal typed refused = ∥∥₁_elim typed (hlevel props) (λ t. typed_not_refused t.1 refused)
+
+one_check : (widths : Widths) (tree : ProgramTree) (outcome other : Outcome) → CheckAnswer widths tree outcome → CheckAnswer widths tree other → outcome ≡ other
+one_check widths tree outcome other (Accepted t r a) (Accepted t' r' b) = a ∙ sym b
+one_check widths tree outcome other (Accepted t r a) (IllTyped refusal x b) = absurd (not_both widths tree refusal t x)
+one_check widths tree outcome other (Accepted t r a) (NotRight refusal t' x b) = let none = (right_exactly_if_none_broken tree.decls).0 r in absurd (cc (none, x))
+one_check widths tree outcome other (IllTyped refusal x a) (Accepted t r b) = absurd (not_both widths tree refusal t x)
+one_check widths tree outcome other (IllTyped refusal x a) (IllTyped refusal' y b) = a ∙ ap (λ (r : Refusal). Refuses (diagnostic.Refused r)) (one_refusal x y) ∙ sym b
+one_check widths tree outcome other (IllTyped refusal x a) (NotRight refusal' t y b) = absurd (not_both widths tree refusal t x)
+one_check widths tree outcome other (NotRight refusal t x a) (Accepted t' r b) = let none = (right_exactly_if_none_broken tree.decls).0 r in absurd (cc (none, x))
+one_check widths tree outcome other (NotRight refusal t x a) (IllTyped refusal' y b) = absurd (not_both widths tree refusal' t y)
+one_check widths tree outcome other (NotRight refusal t x a) (NotRight refusal' t' y b) =
+    a ∙ ap (λ (r : Refusal). Refuses (diagnostic.Refused r)) (some_is refusal refusal' (sym x ∙ y)) ∙ sym b
 
 one_compile : (request : FileRequest) (tree : ProgramTree) (outcome other : Outcome) → CompileAnswer request tree outcome → CompileAnswer request tree other → outcome ≡ other
 one_compile request tree outcome other (Built f x a) (Built g y b) = a ∙ ap (λ (h : Function). Prints (file_text (file_of request.widths request.inverse h))) (one_function tree f g x y) ∙ sym b
@@ -142,6 +165,7 @@ one_simulate file rest outcome other (OtherLine e none a) (OtherLine f none' b) 
 
 one_input : (request : Request) (bytes : List ℕ) (outcome other : Outcome) → InputAnswer request bytes outcome → InputAnswer request bytes other → outcome ≡ other
 one_input Format bytes outcome other x y = one_source bytes FormatAnswer outcome other (λ tree. one_format tree outcome other) x y
+one_input (Check widths) bytes outcome other x y = one_source bytes (CheckAnswer widths) outcome other (λ tree. one_check widths tree outcome other) x y
 one_input (Compile file) bytes outcome other x y = one_source bytes (CompileAnswer file) outcome other (λ tree. one_compile file tree outcome other) x y
 one_input Simulate bytes outcome other x y = one_gates bytes SimulateAnswer outcome other (λ file rest. one_simulate file rest outcome other) x y
 one_input Invert bytes outcome other x y = one_gates bytes InvertAnswer outcome other (λ file rest. one_invert file rest outcome other) x y

@@ -13,10 +13,12 @@ use Rattle.tw_gatetext.specs.Files.{BeginsWith}
 use Rattle.tw_gatetext.proofs.ValidFiles.{valid-inverse, classical, permutes-file}
 use Rattle.tower.specs.declared.status.Status.{Status}
 use Rattle.tower.specs.declared.status.Status.TheVariants as status
-use Rattle.tower.specs.Requests.{FileRequest, Request, Format, Compile, Simulate, Invert, Asks}
+use Rattle.tower.specs.Requests.{FileRequest, Request, Format, Check, Compile, Simulate, Invert, Asks}
 use Rattle.tower.specs.Outcomes.{Outcome, Prints, Refuses, outcome_status, outcome_text}
 use Rattle.tower.specs.Sources.{SourceAnswer, OnTree, NoProgram}
 use Rattle.tower.specs.GateInputs.{GatesAnswer, OnPrefix, WrongLine, PastLimit}
+use Rattle.tw_types.specs.Types.{Widths}
+use Rattle.tower.specs.Check.{CheckAnswer, Accepted, IllTyped, NotRight, Checked}
 use Rattle.tower.specs.Format.{FormatAnswer, Formatted}
 use Rattle.tower.specs.Compile.{CompileAnswer, Built, NotBuilt, Compiled, file_of}
 use Rattle.tower.specs.Invert as invert
@@ -39,6 +41,15 @@ module _ (bytes text : List ℕ) (before now : Option (List ℕ)) (took : Append
   formats : SourceAnswer bytes FormatAnswer (Prints text) → Formatted bytes before now
   formats (OnTree tree source e) = record { tree = tree; source = source; printed = subst (Appends before now) (text_is text _ e) took; reads_back = reads_back tree bytes source }
   formats (NoProgram refusal refused e) = absurd (no_text text _ e)
+
+  checks_tree : (widths : Widths) (tree : ProgramTree) → IsSource bytes tree → CheckAnswer widths tree (Prints text) → Checked widths bytes before now
+  checks_tree widths tree source (Accepted typed right e) = record { tree = tree; source = source; typed = typed; right = right; printed = subst (Appends before now) (text_is text _ e) took }
+  checks_tree widths tree source (IllTyped refusal refused e) = absurd (no_text text _ e)
+  checks_tree widths tree source (NotRight refusal typed broken e) = absurd (no_text text _ e)
+
+  checks : (widths : Widths) → SourceAnswer bytes (CheckAnswer widths) (Prints text) → Checked widths bytes before now
+  checks widths (OnTree tree source is) = checks_tree widths tree source is
+  checks widths (NoProgram refusal refused e) = absurd (no_text text _ e)
 
   compiles_tree : (request : FileRequest) → request.widths.addr ≤ 8 → (tree : ProgramTree) → IsSource bytes tree → CompileAnswer request tree (Prints text) → Compiled request bytes before now
   compiles_tree request narrow tree source (Built function first e) = record {
@@ -107,12 +118,14 @@ asked_answer words bytes text request asks (Usage none e) = absurd (none request
 -- what is promised of the input and the sink of each request
 abbrev pub Promise : Request → Option (List ℕ) → Option (List ℕ) → List ℕ → Type 0
 Promise Format before now bytes = Formatted bytes before now
+Promise (Check widths) before now bytes = Checked widths bytes before now
 Promise (Compile request) before now bytes = Compiled request bytes before now
 Promise Simulate before now bytes = Simulated bytes before now
 Promise Invert before now bytes = Inverted bytes before now
 
 kept : (request : Request) (words : List (List ℕ)) (bytes text : List ℕ) (before now : Option (List ℕ)) → Asks words request → Appends before now text → InputAnswer request bytes (Prints text) → Promise request before now bytes
 kept Format words bytes text before now asks took is = formats bytes text before now took is
+kept (Check widths) words bytes text before now asks took is = checks bytes text before now took widths is
 kept (Compile request) words bytes text before now asks took is = compiles bytes text before now took request asks.in_range.addr_to is
 kept Simulate words bytes text before now asks took is = simulates bytes text before now took is
 kept Invert words bytes text before now asks took is = inverts bytes text before now took is

@@ -9,10 +9,12 @@ use Rattle.tw_syntax.specs.Programs.{ProgramTree}
 use Rattle.tw_gatetext.specs.Text.{File}
 use Rattle.tower.specs.declared.status.Status.{Status}
 use Rattle.tower.specs.declared.status.Status.TheVariants as status
-use Rattle.tower.specs.Requests.{FileRequest, Request, Format, Compile, Simulate, Invert, IsUsage}
+use Rattle.tower.specs.Requests.{FileRequest, Request, Format, Check, Compile, Simulate, Invert, IsUsage}
 use Rattle.tower.specs.Outcomes.{Outcome, Prints, Refuses, rule_status, refusal_status, outcome_status}
 use Rattle.tower.specs.Sources.{SourceAnswer, OnTree, NoProgram}
 use Rattle.tower.specs.GateInputs.{GatesAnswer, OnPrefix, WrongLine, PastLimit}
+use Rattle.tw_types.specs.Types.{Widths}
+use Rattle.tower.specs.Check.{CheckAnswer, Accepted, IllTyped, NotRight}
 use Rattle.tower.specs.Format.{FormatAnswer}
 use Rattle.tower.specs.Compile.{CompileAnswer, Built, NotBuilt}
 use Rattle.tower.specs.Invert as invert
@@ -62,6 +64,11 @@ gates-not_usage bytes OnFile outcome on_file (OnPrefix file rest begins is) = on
 gates-not_usage bytes OnFile outcome on_file (WrongLine line is e) = ap not_usage e
 gates-not_usage bytes OnFile outcome on_file (PastLimit refusal is e) = ap not_usage e
 
+check-not_usage : (widths : Widths) (tree : ProgramTree) (outcome : Outcome) → CheckAnswer widths tree outcome → not_usage outcome ≡ true
+check-not_usage widths tree outcome (Accepted typed right e) = ap not_usage e
+check-not_usage widths tree outcome (IllTyped refusal refused e) = ap not_usage e
+check-not_usage widths tree outcome (NotRight refusal typed broken e) = ap not_usage e
+
 compile-not_usage : (request : FileRequest) (tree : ProgramTree) (outcome : Outcome) → CompileAnswer request tree outcome → not_usage outcome ≡ true
 compile-not_usage request tree outcome (Built function first e) = ap not_usage e
 compile-not_usage request tree outcome (NotBuilt none e) = ap not_usage e
@@ -72,6 +79,7 @@ source-not_usage bytes OnProgram outcome on_program (NoProgram refusal refused e
 
 input-not_usage : (request : Request) (bytes : List ℕ) (outcome : Outcome) → InputAnswer request bytes outcome → not_usage outcome ≡ true
 input-not_usage Format bytes outcome is = source-not_usage bytes FormatAnswer outcome (λ tree e. ap not_usage e) is
+input-not_usage (Check widths) bytes outcome is = source-not_usage bytes (CheckAnswer widths) outcome (λ tree. check-not_usage widths tree outcome) is
 input-not_usage (Compile file) bytes outcome is = source-not_usage bytes (CompileAnswer file) outcome (λ tree. compile-not_usage file tree outcome) is
 input-not_usage Simulate bytes outcome is = gates-not_usage bytes SimulateAnswer outcome (λ file rest. simulate-not_usage file rest outcome) is
 input-not_usage Invert bytes outcome is = gates-not_usage bytes InvertAnswer outcome (λ file rest. invert-not_usage file rest outcome) is

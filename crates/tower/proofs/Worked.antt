@@ -12,7 +12,7 @@ use Rattle.tw_types.specs.Types.{Widths, AreInRange}
 use Rattle.tw_state.specs.Examples.{main}
 use Rattle.tower.specs.declared.options.Key.{Key}
 use Rattle.tower.specs.declared.options.Key.TheVariants as key
-use Rattle.tower.specs.Requests.{Format, Compile, Simulate, Invert, Choice, FileRequest, values_of, wanted, AsksFile, IsUsage}
+use Rattle.tower.specs.Requests.{Format, Check, Compile, Simulate, Invert, Choice, FileRequest, values_of, wanted, AsksFile, IsUsage}
 use Rattle.tower.specs.Form.{is_right}
 use Rattle.tower.specs.FirstTree.{IsFirstTree}
 use Rattle.tower.specs.ReadingTree.{form_in_main}
@@ -29,6 +29,7 @@ nothing_asked : IsUsage []
 nothing_asked Format asks = cc
 nothing_asked Simulate asks = cc
 nothing_asked Invert asks = cc
+nothing_asked (Check widths) asks = let e = asks.spelled in cc
 nothing_asked (Compile file) asks = let e = asks.spelled in cc
 
 -- no arguments, and any input

@@ -10,11 +10,12 @@ use Rattle.tw_text.specs.Places.{first_place}
 use Rattle.tw_text.specs.Refusals.{passed}
 use Rattle.tower.specs.declared.status.Status.{Status}
 use Rattle.tower.specs.declared.status.Status.TheVariants as status
-use Rattle.tower.specs.Requests.{Request, Format, Compile, Simulate, Invert, Asks, IsUsage}
+use Rattle.tower.specs.Requests.{Request, Format, Check, Compile, Simulate, Invert, Asks, IsUsage}
 use Rattle.tower.specs.Outcomes.{Outcome, Prints, Refuses, outcome_status, outcome_text, refusal_status}
 use Rattle.tower.specs.Sources.{SourceAnswer}
 use Rattle.tower.specs.GateInputs.{GatesAnswer}
 use Rattle.tower.specs.Format.{FormatAnswer}
+use Rattle.tower.specs.Check.{CheckAnswer}
 use Rattle.tower.specs.Compile.{CompileAnswer}
 use Rattle.tower.specs.Simulate.{SimulateAnswer}
 use Rattle.tower.specs.Invert.{InvertAnswer}
@@ -22,6 +23,7 @@ use Rattle.tower.specs.Invert.{InvertAnswer}
 -- the answer to a request on an input within the limit
 abbrev pub InputAnswer : Request → List ℕ → Outcome → Type 0
 InputAnswer Format bytes outcome = SourceAnswer bytes FormatAnswer outcome
+InputAnswer (Check widths) bytes outcome = SourceAnswer bytes (CheckAnswer widths) outcome
 InputAnswer (Compile file) bytes outcome = SourceAnswer bytes (CompileAnswer file) outcome
 InputAnswer Simulate bytes outcome = GatesAnswer bytes SimulateAnswer outcome
 InputAnswer Invert bytes outcome = GatesAnswer bytes InvertAnswer outcome

@@ -1,15 +1,15 @@
 -- Requests and options as the code keeps them.
-use Rattle.std.specs.Prelude.{◌≡◌, ℕ, ◌≤◌, if◌then◌else◌, List, [], ◌∷◌, ◌++◌, length, drop, get_or, Option, Some, None, option_map, option_to_list}
+use Rattle.std.specs.Prelude.{◌≡◌, ℕ, ◌≤◌, if◌then◌else◌, List, [], ◌∷◌, ◌++◌, length, drop, get_or, Option, Some, None, option_map, option_to_list, decimal}
 use denote.Ref.{Bor}
 use Rattle.std.specs.List.{flat_map}
 use Rattle.std.specs.Str.{bytes_eq}
-use Rattle.tw_types.specs.Types.{AreInRange}
+use Rattle.tw_types.specs.Types.{Widths, AreInRange}
 use Rattle.tower.specs.declared.options.Key.{Key}
 use Rattle.tower.specs.declared.options.Key.TheVariants as key
 use Rattle.tower.specs.declared.request.Options.{Options}
 use Rattle.tower.specs.declared.request.Command.{Command}
 use Rattle.tower.specs.declared.request.Command.TheVariants as command
-use Rattle.tower.specs.Requests.{FileRequest, Request, Format, Compile, Simulate, Invert, Choice, key_text, is_flag, key_place, choice_words, values_of, wanted}
+use Rattle.tower.specs.Requests.{FileRequest, Request, Format, Check, Compile, Simulate, Invert, Choice, key_text, is_flag, key_place, choice_words, values_of, wanted, wanted_widths}
 
 -- the request that the options of the code are
 abbrev pub file_request : Options → FileRequest
@@ -17,6 +17,7 @@ file_request options = record { widths = options.widths; inverse = options.inver
 
 abbrev pub request_of : Command → Request
 request_of command.Format = Format
+request_of (command.Check widths) = Check widths
 request_of (command.Compile options) = Compile (file_request options)
 request_of command.Simulate = Simulate
 request_of command.Invert = Invert
@@ -60,7 +61,20 @@ pub record AreGiven (words rest : List (List ℕ)) (values : List (Option (Bor (
 abbrev pub AreNotGiven : List (List ℕ) → Type 0
 AreNotGiven words = (choices : List Choice) → words ≡ flat_map choice_words choices → ((key : Key) → length (values_of key choices) ≤ 1) → ⊥
 
+-- the widths are given, and in range
+pub record HasWidths (values : List (Option (Bor (List ℕ)))) (widths : Widths) : Type 0 where
+  pub word : given_to values key.Word ≡ decimal widths.word ∷ []
+  pub addr : given_to values key.Addr ≡ decimal widths.addr ∷ []
+  pub in_range : AreInRange widths
+
+-- the values that are given are the wanted ones, and the widths are in range
+pub record AreValues (wanted_of : Key → List (List ℕ)) (widths : Widths) (values : List (Option (Bor (List ℕ)))) : Type 0 where
+  pub each : (key : Key) → given_to values key ≡ wanted_of key
+  pub in_range : AreInRange widths
+
 -- the values are those of the request
-pub record AreWanted (values : List (Option (Bor (List ℕ)))) (request : FileRequest) : Type 0 where
-  pub each : (key : Key) → given_to values key ≡ wanted key request
-  pub in_range : AreInRange request.widths
+abbrev pub AreWanted : List (Option (Bor (List ℕ))) → FileRequest → Type 0
+AreWanted values request = AreValues (λ key. wanted key request) request.widths values
+
+abbrev pub AreWidths : List (Option (Bor (List ℕ))) → Widths → Type 0
+AreWidths values widths = AreValues (λ key. wanted_widths key widths) widths values

@@ -15,6 +15,7 @@ pub record FileRequest : Type 0 where
 -- the request of a call
 pub data Request : Type 0 where
   Format : Request
+  Check : (widths : Widths) → Request
   Compile : (file : FileRequest) → Request
   Simulate : Request
   Invert : Request
@@ -60,16 +61,29 @@ wanted key.Addr file = decimal file.widths.addr ∷ []
 wanted key.Entry file = codes "main" ∷ []
 wanted key.Inverse file = if file.inverse then [] ∷ [] else []
 
--- the arguments are `compile`, then options in any order with these values, and the widths are in range
-pub record AsksFile (words : List (List ℕ)) (file : FileRequest) : Type 0 where
+-- the values that are given to each key in a check: the widths alone
+abbrev pub wanted_widths : Key → Widths → List (List ℕ)
+wanted_widths key.Word widths = decimal widths.word ∷ []
+wanted_widths key.Addr widths = decimal widths.addr ∷ []
+wanted_widths other widths = []
+
+-- the arguments are this command, then options in any order with these values, and the widths are in range
+pub record AsksWith (command : List ℕ) (values_wanted : Key → List (List ℕ)) (widths : Widths) (words : List (List ℕ)) : Type 0 where
   pub choices : List Choice
-  pub spelled : words ≡ codes "compile" ∷ flat_map choice_words choices
-  pub values : (key : Key) → values_of key choices ≡ wanted key file
-  pub in_range : AreInRange file.widths
+  pub spelled : words ≡ command ∷ flat_map choice_words choices
+  pub values : (key : Key) → values_of key choices ≡ values_wanted key
+  pub in_range : AreInRange widths
+
+abbrev pub AsksCheck : List (List ℕ) → Widths → Type 0
+AsksCheck words widths = AsksWith (codes "check") (λ key. wanted_widths key widths) widths words
+
+abbrev pub AsksFile : List (List ℕ) → FileRequest → Type 0
+AsksFile words file = AsksWith (codes "compile") (λ key. wanted key file) file.widths words
 
 -- the arguments are this request; `format`, `sim` and `invert` have no options
 abbrev pub Asks : List (List ℕ) → Request → Type 0
 Asks words Format = words ≡ codes "format" ∷ []
+Asks words (Check widths) = AsksCheck words widths
 Asks words (Compile file) = AsksFile words file
 Asks words Simulate = words ≡ codes "sim" ∷ []
 Asks words Invert = words ≡ codes "invert" ∷ []

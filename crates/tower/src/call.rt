@@ -2,9 +2,11 @@
 ghost use Rattle.std.specs.Prelude.{◌≡◌, ◌≢◌, ◌≤◌, ◌+◌, ◌⊎◌, ℕ, List, length, IfSome};
 ghost use Rattle.tw_io.specs.Devices.{Rose, TakesBetween, IsAtEnd};
 ghost use Rattle.tw_text.specs.declared.limits.TheConstants.{INPUT_LIMIT};
-ghost use Rattle.tower.specs.Requests.{FileRequest, Format, Compile, Simulate, Invert, Asks, IsUsage};
+ghost use Rattle.tower.specs.Requests.{FileRequest, Format, Check, Compile, Simulate, Invert, Asks, IsUsage};
 ghost use Rattle.tower.specs.Outcomes.{Outcome};
 ghost use Rattle.tower.specs.Answer.{InputAnswer, Answer, Answered, IsComplete, IsCutShort, Cause};
+ghost use Rattle.tw_types.specs.Types as types;
+ghost use Rattle.tower.specs.Check.{Checked};
 ghost use Rattle.tower.specs.Format.{Formatted};
 ghost use Rattle.tower.specs.Compile.{Compiled};
 ghost use Rattle.tower.specs.Simulate.{Simulated};
@@ -12,6 +14,7 @@ ghost use Rattle.tower.specs.Invert.{Inverted};
 ghost use Rattle.tower.specs.Given.{request_of};
 ghost use Rattle.tower.specs.Ending.{Did, IsKept};
 
+use crate::check::check;
 use crate::compile::compile;
 use crate::ending::{Unanswered, finish, refuse};
 use crate::format::format;
@@ -36,6 +39,7 @@ fn answer<K: Sink>(
 {
     match command {
         Command::Format => format(alloc, bytes, output),
+        Command::Check(widths) => check(alloc, widths, bytes, output),
         Command::Compile(options) => compile(alloc, options, bytes, output),
         Command::Simulate => simulate(alloc, bytes, output),
         Command::Invert => invert(alloc, bytes, output),
@@ -103,6 +107,8 @@ pub fn tower_main<S: Source, K: Sink>(
         → IfSome (S.left input.old) (λ bytes. Compiled request bytes (K.taken output.old) (K.taken output.new)) }
     ensures formatted { Asks words.now Format → result ≡ Status.Ok
         → IfSome (S.left input.old) (λ bytes. Formatted bytes (K.taken output.old) (K.taken output.new)) }
+    ensures checked { (widths : types.Widths) → Asks words.now (Check widths) → result ≡ Status.Ok
+        → IfSome (S.left input.old) (λ bytes. Checked widths bytes (K.taken output.old) (K.taken output.new)) }
     ensures inverted { Asks words.now Invert → result ≡ Status.Ok
         → IfSome (S.left input.old) (λ bytes. Inverted bytes (K.taken output.old) (K.taken output.new)) }
     ensures simulated { Asks words.now Simulate → result ≡ Status.Ok

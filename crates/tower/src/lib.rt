@@ -4,6 +4,9 @@
 #![tactic(auto)]
 
 mod call;
+mod check;
+#[cfg(test)]
+mod check_tests;
 mod compile;
 mod ending;
 mod first_form;

@@ -2,8 +2,9 @@
 ghost use Rattle.std.specs.Prelude.{◌≡◌, ◌<◌, ◌^◌, ℕ, decimal, codes, slice_get, length, IfSome};
 ghost use Rattle.std.specs.Option.{IfNone};
 ghost use Rattle.std.specs.Str.{bytes_eq};
-ghost use Rattle.tower.specs.Requests.{FileRequest, Asks, AsksFile, IsUsage};
-ghost use Rattle.tower.specs.Given.{file_request, request_of, AreWanted};
+ghost use Rattle.tw_types.specs.Types as types;
+ghost use Rattle.tower.specs.Requests.{FileRequest, Asks, AsksCheck, AsksFile, IsUsage};
+ghost use Rattle.tower.specs.Given.{file_request, request_of, AreWanted, AreWidths, HasWidths};
 
 use crate::options::{Given, Key, options_of};
 use crate::words::Words;
@@ -23,6 +24,8 @@ pub struct Options {
 pub enum Command {
     /// The printed form of a program.
     Format,
+    /// Whether a program is well-typed and reversible, at these widths.
+    Check(Widths),
     /// The gate file of a program, or the inverse file.
     Compile(Options),
     /// The images of lines of bits under the gates of a file.
@@ -50,14 +53,22 @@ fn is_main(word: &str) -> bool
     word == "main"
 }
 
+/// The widths that are given.
+fn widths_of(given: &Given) -> Option<Widths>
+    ensures some { IfSome result (HasWidths given.now.values) }
+    ensures none { IfNone result ((widths : types.Widths) → ¬ HasWidths given.now.values widths) }
+{
+    let word = width(given.value(Key::Word)?)?;
+    let addr = width(given.value(Key::Addr)?)?;
+    Widths::new(word, addr)
+}
+
 /// The request that the options of `compile` are.
 fn file_options(given: &Given) -> Option<Options>
     ensures some { IfSome result (λ options. AreWanted given.now.values (file_request options)) }
     ensures none { IfNone result ((request : FileRequest) → ¬ AreWanted given.now.values request) }
 {
-    let word = width(given.value(Key::Word)?)?;
-    let addr = width(given.value(Key::Addr)?)?;
-    let widths = Widths::new(word, addr)?;
+    let widths = widths_of(given)?;
     if !is_main(given.value(Key::Entry)?) {
         return None;
     }
@@ -78,6 +89,32 @@ fn compile_of(words: &Words) -> Option<Command>
     Some(Command::Compile(options))
 }
 
+/// The widths that the options of `check` are.
+fn check_options(given: &Given) -> Option<Widths>
+    ensures some { IfSome result (AreWidths given.now.values) }
+    ensures none { IfNone result ((widths : types.Widths) → ¬ AreWidths given.now.values widths) }
+{
+    let widths = widths_of(given)?;
+    if given.value(Key::Entry).is_some() {
+        return None;
+    }
+    if given.value(Key::Inverse).is_some() {
+        return None;
+    }
+    Some(widths)
+}
+
+/// The request that the arguments after `check` are.
+fn check_of(words: &Words) -> Option<Command>
+    requires { slice_get words.now 0 ≡ Some (codes "check") }
+    ensures some { IfSome result (λ command. Asks words.now (request_of command)) }
+    ensures none { IfNone result ((widths : types.Widths) → ¬ AsksCheck words.now widths) }
+{
+    let given = options_of(words)?;
+    let widths = check_options(&given)?;
+    Some(Command::Check(widths))
+}
+
 /// A command without options. `None` if an argument follows it.
 fn alone(command: Command, words: &Words) -> Option<Command>
     requires { 0 < length words.now }
@@ -96,6 +133,7 @@ pub fn command_of(words: &Words) -> Option<Command>
         return None;
     }
     match words.word(0) {
+        "check" => check_of(words),
         "compile" => compile_of(words),
         "format" => alone(Command::Format, words),
         "sim" => alone(Command::Simulate, words),

@@ -126,7 +126,7 @@ fn prints_long_programs(rt: HostRuntime) -> Result<(), AllocError> {
 }
 
 /// Whether the arguments and this input have this status and exactly this text as answer.
-fn answers(
+pub fn answers(
     rt: &HostRuntime,
     line: &str,
     bytes: &[u8],

@@ -20,3 +20,4 @@ pub mod Withs
 pub mod Branches
 pub mod Functions
 pub mod Declarations
+pub mod RightDecls

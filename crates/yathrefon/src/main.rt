@@ -13,6 +13,9 @@ const SYNOPSIS: &str = "\
 usage: yathrefon COMMAND [OPTION..]    the input is read from standard input, the answer goes to standard output
 
   format     print a program in its canonical form
+  check      check that a program is well-typed and reversible
+    --word W     bits of a word, from 1 to 32
+    --addr A     bits of an address, from 1 to 8
   compile    compile a program to a gate file
     --word W     bits of a word, from 1 to 32
     --addr A     bits of an address, from 1 to 8

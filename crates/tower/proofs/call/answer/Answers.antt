@@ -8,6 +8,9 @@ use Rattle.tower.proofs.call.answer.Goals as goal
 pub returns-in-Format : goal.returns-in-Format
 returns-in-Format g c = subst (λ (k : Command). Did g.K.Sink.taken g.K.Sink.faults c.args.output.now c.format.new.output c.format.result (InputAnswer (request_of k) c.args.bytes.now)) (sym c.in-Format.is) c.format.ensures
 
+pub returns-in-Check : goal.returns-in-Check
+returns-in-Check g c = subst (λ (k : Command). Did g.K.Sink.taken g.K.Sink.faults c.args.output.now c.check.new.output c.check.result (InputAnswer (request_of k) c.args.bytes.now)) (sym c.in-Check.is) c.check.ensures
+
 pub returns-in-Compile : goal.returns-in-Compile
 returns-in-Compile g c = subst (λ (k : Command). Did g.K.Sink.taken g.K.Sink.faults c.args.output.now c.compile.new.output c.compile.result (InputAnswer (request_of k) c.args.bytes.now)) (sym c.in-Compile.is) c.compile.ensures
 

@@ -1,4 +1,4 @@
-use Rattle.tower.specs.Requests.{Format, Compile, Simulate, Invert}
+use Rattle.tower.specs.Requests.{Format, Check, Compile, Simulate, Invert}
 use Rattle.tower.proofs.OneAnswer.{one_answer}
 use Rattle.tower.proofs.WhenEnded.{only_where, comes, usage_only, complete}
 use Rattle.tower.proofs.Promises.{promised}
@@ -16,6 +16,9 @@ returns-clause-headline g c = λ request. promised (Compile request) _ _ _ c.arg
 
 pub returns-clause-formatted : goal.returns-clause-formatted
 returns-clause-formatted g c = promised Format _ _ _ c.args.words.now c.run.result c.run.ensures.answered
+
+pub returns-clause-checked : goal.returns-clause-checked
+returns-clause-checked g c = λ widths. promised (Check widths) _ _ _ c.args.words.now c.run.result c.run.ensures.answered
 
 pub returns-clause-inverted : goal.returns-clause-inverted
 returns-clause-inverted g c = promised Invert _ _ _ c.args.words.now c.run.result c.run.ensures.answered
