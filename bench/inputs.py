@@ -11,6 +11,14 @@ def functions(size):
     return head + "\n" + function * (size // len(function))
 
 
+def different_functions(size):
+    """The same, but each function has a name of its own, so that `check` accepts the program."""
+    head, function = PRINTED.split("\n", 1)
+    count = size // len(function)
+    named = (function.replace("length[", f"length_{number}[") for number in range(count))
+    return head + "\n" + "".join(named)
+
+
 def gate_file(gates, wires):
     """A gate file with so many gates on so many wires. Each gate has 0 to 3 controls."""
     numbers = random.Random(1)
