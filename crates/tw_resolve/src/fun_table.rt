@@ -65,6 +65,14 @@ impl<'a> FunTable<'a> {
         self.table.len()
     }
 
+    /// The function of this number. There are more functions.
+    pub fn at(&self, number: usize) -> &'a Fun<'a>
+        requires { number < length (funs_in self.now.table.entries) }
+        ensures { slice_get (funs_in self.now.table.entries) number ≡ Some (fun_tree result.now) }
+    {
+        self.table[number]
+    }
+
     /// The number of the function of this name: its position in text order.
     pub fn number_of(&self, name: &str) -> Option<usize>
         ensures { result ≡ number_of (funs_in self.now.table.entries) name.now }

@@ -134,14 +134,6 @@ pub fn check_fun<'a>(
     Ok(variables)
 }
 
-/// The function of this number. There are more functions.
-fn fun_of<'a>(tables: &Tables<'a>, number: usize) -> &'a Fun<'a>
-    requires { number < length (setting_in tables.now).funs }
-    ensures { slice_get (setting_in tables.now).funs number ≡ Some (fun_tree result.now) }
-{
-    tables.funs.table[number]
-}
-
 /// The variables of each function, in text order. All functions keep the rules of types.
 pub fn check_funs<'a>(
     alloc: Global,
@@ -152,8 +144,8 @@ pub fn check_funs<'a>(
     ensures after { IfOk result (λ found. map (λ variables. variables_in variables.table.entries) found.items ≡ map (end_variables (setting_in tables.now)) (setting_in tables.now).funs) }
 {
     let mut found = Vec::new(alloc);
-    for number in 0..tables.funs.table.len() {
-        let variables = check_fun(alloc, arena, tables, number, fun_of(tables, number))?;
+    for number in 0..tables.funs.len() {
+        let variables = check_fun(alloc, arena, tables, number, tables.funs.at(number))?;
         found.push(variables)?;
     }
     Ok(found)

@@ -1,6 +1,6 @@
 //! Well-typed programs.
-ghost use Rattle.std.specs.Prelude.{◌≡◌, length, IfOk, OnOk, IfErr};
-ghost use Rattle.tw_syntax.specs.Programs.{program_tree};
+ghost use Rattle.std.specs.Prelude.{◌≡◌, ◌<◌, Some, length, slice_get, IfOk, OnOk, IfErr};
+ghost use Rattle.tw_syntax.specs.Programs.{fun_tree, program_tree};
 ghost use Rattle.tw_resolve.specs.Declarations.{funs_of, number_of};
 ghost use Rattle.tw_resolve.specs.Programs.{IsWellTyped, IsRefusedWith};
 ghost use Rattle.tw_resolve.specs.Tables.{AreTypedTablesOf};
@@ -10,7 +10,7 @@ use crate::declare::declare;
 use crate::tables::Tables;
 use crate::typing::check_types;
 use std::alloc::Global;
-use tw_syntax::Program;
+use tw_syntax::{Fun, Program};
 use tw_text::{Arena, Fault};
 use tw_types::Widths;
 
@@ -44,6 +44,14 @@ impl<'a> Resolved<'a> {
         ensures { result ≡ length (funs_of (program_tree self.now.program.now).decls) }
     {
         self.tables.funs.len()
+    }
+
+    /// The function of this number. There are more functions.
+    pub fn fun_at(&self, number: usize) -> &'a Fun<'a>
+        requires { number < length (funs_of (program_tree self.now.program.now).decls) }
+        ensures { slice_get (funs_of (program_tree self.now.program.now).decls) number ≡ Some (fun_tree result.now) }
+    {
+        self.tables.funs.at(number)
     }
 
     /// The function of this name, by its number: its position in text order.

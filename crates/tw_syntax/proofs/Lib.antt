@@ -5,3 +5,4 @@ pub mod Deciding
 pub mod DecidedTypes
 pub mod DecidedTerms
 pub mod DecidedPrograms
+pub mod Sets

@@ -9,11 +9,13 @@ use Rattle.tw_syntax.specs.Examples.{lent, name, place}
 pub record NameTree : Type 0 where
   pub text : List ℕ
   pub at : Pos
+  deriving IsSet as NameTree-set
 
 -- a name, and the steps, 1 or 2, from its value to a part
 pub record PathTree : Type 0 where
   pub root : NameTree
   pub steps : List ℕ
+  deriving IsSet as PathTree-set
 
 -- the tree of a name
 abbrev pub name_tree : Name → NameTree

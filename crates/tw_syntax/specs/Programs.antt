@@ -18,6 +18,7 @@ use Rattle.tw_syntax.specs.Statements.{StmtTree, stmts_tree}
 pub record ParamTree : Type 0 where
   pub name : NameTree
   pub ty : WrittenTree
+  deriving IsSet as ParamTree-set
 
 -- a function, and the place of its `return`
 pub record FunTree : Type 0 where
@@ -28,6 +29,7 @@ pub record FunTree : Type 0 where
   pub body : StmtTree
   pub return_at : Pos
   pub returned : NameTree
+  deriving IsSet as FunTree-set
 
 -- an alias: a name for a type
 pub record AliasTree : Type 0 where

@@ -21,6 +21,7 @@ pub data StmtTree : Type 0 where
   WithStmt : (at : Pos) (setup work : StmtTree) → StmtTree
   BlockStmt : (at : Pos) (body : StmtTree) → StmtTree
   SkipStmt : (at : Pos) → StmtTree
+  deriving IsSet as StmtTree-set
 
 abbrev mutual
   -- the tree of a form of statements at a place

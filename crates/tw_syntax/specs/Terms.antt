@@ -26,6 +26,7 @@ pub data AtomTree : Type 0 where
   UnitAtom : (at : Pos) → AtomTree
   NullAtom : (at : Pos) (ty : WrittenTree) → AtomTree
   ZeroAtom : (at : Pos) (ty : WrittenTree) → AtomTree
+  deriving IsSet as AtomTree-set
 
 -- an expression and its place
 pub data ExprTree : Type 0 where
@@ -33,18 +34,21 @@ pub data ExprTree : Type 0 where
   TwoExpr : (at : Pos) (first second : AtomTree) → ExprTree
   NotExpr : (at : Pos) (atom : AtomTree) → ExprTree
   OpExpr : (at : Pos) (op : OpKind) (left right : AtomTree) → ExprTree
+  deriving IsSet as ExprTree-set
 
 -- the bound of a call
 pub data BoundTree : Type 0 where
   FixedBound : (number : ℕ) → BoundTree
   SameBound : (name : NameTree) → BoundTree
   LessBound : (name : NameTree) (number : ℕ) → BoundTree
+  deriving IsSet as BoundTree-set
 
 -- the right side of a `let`
 pub data RhsTree : Type 0 where
   ExprRhs : (expr : ExprTree) → RhsTree
   CallRhs : (callee : NameTree) (bound : Option BoundTree) (args : List NameTree) → RhsTree
   AllocRhs : (ty : WrittenTree) → RhsTree
+  deriving IsSet as RhsTree-set
 
 -- the tree of a form of atoms at a place
 abbrev pub atom_kind_tree : Pos → AtomKind → AtomTree

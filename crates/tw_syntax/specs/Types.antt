@@ -14,6 +14,7 @@ pub data WrittenTree : Type 0 where
   PairType : (at : Pos) (first second : WrittenTree) → WrittenTree
   PtrType : (at : Pos) (to : WrittenTree) → WrittenTree
   NamedType : (at : Pos) (name : List ℕ) → WrittenTree
+  deriving IsSet as WrittenTree-set
 
 -- the tree of a form of types at a place
 abbrev pub written_kind_tree : Pos → WrittenKind → WrittenTree

@@ -11,14 +11,14 @@ use Rattle.tw_resolve.proofs.functions.check_funs.Goals as goal
 pub returns-in_err-variables-clause-tried : goal.returns-in_err-variables-clause-tried
 returns-in_err-variables-clause-tried c =
     tries_same _ _ _ c.loop-number.invariant.demands
-    (fun_stopped (setting_in c.args.tables.now) (funs_in c.args.tables.now.funs.table.entries) c.loop-number.number _ c.fun_of.ensures
+    (fun_stopped (setting_in c.args.tables.now) (funs_in c.args.tables.now.funs.table.entries) c.loop-number.number _ c.at.ensures
     _ _ c.in_err-variables.ensures.tried c.from_residual.ensures.1)
 
 pub loop-number-preserved : goal.loop-number-preserved
 loop-number-preserved c = record {
   demands = c.loop-number.invariant.demands
-      ∙ fun_kept (setting_in c.args.tables.now) (funs_in c.args.tables.now.funs.table.entries) c.loop-number.number _ c.fun_of.ensures
+      ∙ fun_kept (setting_in c.args.tables.now) (funs_in c.args.tables.now.funs.table.entries) c.loop-number.number _ c.at.ensures
       _ c.in_ok-variables.ensures.tried;
   after = found_next (λ (v : Variables). variables_in v.table.entries) (end_variables (setting_in c.args.tables.now)) (funs_in c.args.tables.now.funs.table.entries)
-      c.loop-number.number _ c.loop-number.found.items _ _ c.fun_of.ensures c.in_ok-push.ensures.items c.in_ok-variables.ensures.after c.loop-number.invariant.after;
+      c.loop-number.number _ c.loop-number.found.items _ _ c.at.ensures c.in_ok-push.ensures.items c.in_ok-variables.ensures.after c.loop-number.invariant.after;
 }
