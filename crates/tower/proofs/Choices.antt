@@ -18,6 +18,7 @@ key_among-text : (k : Key) → key_among (key_text k) keys ≡ Some k
 key_among-text key.Word = refl
 key_among-text key.Addr = refl
 key_among-text key.Entry = refl
+key_among-text key.Bound = refl
 key_among-text key.Inverse = refl
 
 pub key_among-is : (word : List ℕ) (list : List Key) (k : Key) → key_among word list ≡ Some k → word ≡ key_text k
@@ -35,12 +36,14 @@ abbrev key_at : ℕ → Key
 key_at zero = key.Word
 key_at (suc zero) = key.Addr
 key_at (suc (suc zero)) = key.Entry
-key_at (suc (suc (suc n))) = key.Inverse
+key_at (suc (suc (suc zero))) = key.Bound
+key_at (suc (suc (suc (suc n)))) = key.Inverse
 
 key_at-place : (k : Key) → key_at (key_place k) ≡ k
 key_at-place key.Word = refl
 key_at-place key.Addr = refl
 key_at-place key.Entry = refl
+key_at-place key.Bound = refl
 key_at-place key.Inverse = refl
 
 pub one_place : (k other : Key) → key_place k ≡ key_place other → k ≡ other
@@ -49,7 +52,7 @@ one_place k other e = sym (key_at-place k) ∙ ap key_at e ∙ key_at-place othe
 pub head_is : {A : Type 0} (x y : A) (xs ys : List A) → x ∷ xs ≡ y ∷ ys → x ≡ y
 head_is x y xs ys e = cc
 
-tail_is : {A : Type 0} (x y : A) (xs ys : List A) → x ∷ xs ≡ y ∷ ys → xs ≡ ys
+pub tail_is : {A : Type 0} (x y : A) (xs ys : List A) → x ∷ xs ≡ y ∷ ys → xs ≡ ys
 tail_is x y xs ys e = cc
 
 pub nil_cons : {A : Type 0} (x : A) (xs : List A) → [] ≡ x ∷ xs → ⊥

@@ -1,9 +1,9 @@
 pub mod Bools
 pub mod Binds
-pub mod Checks
 pub mod Choices
 pub mod Wanted
 pub mod OneRequest
+pub mod Ranges
 pub mod OneAnswer
 pub mod Closing
 pub mod WhenEnded
@@ -15,5 +15,6 @@ pub mod Long
 pub mod Compiles
 pub mod AfterFiles
 pub mod Doing
+pub mod Accepting
 pub mod Promises
 pub mod Worked

@@ -28,9 +28,11 @@ use Rattle.tower.specs.Outcomes.{Outcome, Prints, Refuses}
 use Rattle.tower.specs.Sources.{SourceAnswer, OnTree, NoProgram}
 use Rattle.tower.specs.GateInputs.{GatesAnswer, OnPrefix, WrongLine, PastLimit}
 use Rattle.tower.specs.FirstTree.{IsFirstTree}
-use Rattle.tower.specs.Check.{CheckAnswer, Accepted, IllTyped, NotRight}
+use Rattle.tower.specs.Accepted.{IsAccepted, BreaksFirst, IllTyped, NotRight, IsReady, IsBadEntry}
+use Rattle.tower.specs.Check.{CheckAnswer, Accepted, Broken}
 use Rattle.tower.specs.Format.{FormatAnswer}
-use Rattle.tower.specs.Compile.{CompileAnswer, Built, NotBuilt, file_of}
+use Rattle.tower.specs.Compile as compile
+use Rattle.tower.specs.Compile.{CompileAnswer, BadEntry, Built, NotBuilt, file_of}
 use Rattle.tower.specs.Invert as invert
 use Rattle.tower.specs.Invert.{InvertAnswer, inverse_file}
 use Rattle.tower.specs.Simulate as simulate
@@ -62,23 +64,48 @@ one_format tree outcome other x y = x ∙ sym y
 not_both : (widths : Widths) (tree : ProgramTree) (refusal : Refusal) → ∥ IsWellTyped widths tree ∥₁ → IsRefused widths tree refusal → ⊥
 not_both widths tree refusal typed refused = ∥∥₁_elim typed (hlevel props) (λ t. typed_not_refused t.1 refused)
 
+-- an accepted program breaks no rule
+accepted_or_broken : (widths : Widths) (tree : ProgramTree) (refusal : Refusal) → IsAccepted widths tree → BreaksFirst widths tree refusal → ⊥
+accepted_or_broken widths tree refusal accepted (IllTyped x) = not_both widths tree refusal accepted.typed x
+accepted_or_broken widths tree refusal accepted (NotRight typed x) = let none = (right_exactly_if_none_broken tree.decls).0 accepted.right in cc (none, x)
+
+-- one rule is the first that a program breaks
+one_first : (widths : Widths) (tree : ProgramTree) (refusal other : Refusal) → BreaksFirst widths tree refusal → BreaksFirst widths tree other → refusal ≡ other
+one_first widths tree refusal other (IllTyped x) (IllTyped y) = one_refusal x y
+one_first widths tree refusal other (IllTyped x) (NotRight typed y) = absurd (not_both widths tree refusal typed x)
+one_first widths tree refusal other (NotRight typed x) (IllTyped y) = absurd (not_both widths tree other typed y)
+one_first widths tree refusal other (NotRight typed x) (NotRight typed' y) = some_is refusal other (sym x ∙ y)
+
+abbrev refused_as : Refusal → Outcome
+refused_as refusal = Refuses (diagnostic.Refused refusal)
+
 one_check : (widths : Widths) (tree : ProgramTree) (outcome other : Outcome) → CheckAnswer widths tree outcome → CheckAnswer widths tree other → outcome ≡ other
-one_check widths tree outcome other (Accepted t r a) (Accepted t' r' b) = a ∙ sym b
-one_check widths tree outcome other (Accepted t r a) (IllTyped refusal x b) = absurd (not_both widths tree refusal t x)
-one_check widths tree outcome other (Accepted t r a) (NotRight refusal t' x b) = let none = (right_exactly_if_none_broken tree.decls).0 r in absurd (cc (none, x))
-one_check widths tree outcome other (IllTyped refusal x a) (Accepted t r b) = absurd (not_both widths tree refusal t x)
-one_check widths tree outcome other (IllTyped refusal x a) (IllTyped refusal' y b) = a ∙ ap (λ (r : Refusal). Refuses (diagnostic.Refused r)) (one_refusal x y) ∙ sym b
-one_check widths tree outcome other (IllTyped refusal x a) (NotRight refusal' t y b) = absurd (not_both widths tree refusal t x)
-one_check widths tree outcome other (NotRight refusal t x a) (Accepted t' r b) = let none = (right_exactly_if_none_broken tree.decls).0 r in absurd (cc (none, x))
-one_check widths tree outcome other (NotRight refusal t x a) (IllTyped refusal' y b) = absurd (not_both widths tree refusal' t y)
-one_check widths tree outcome other (NotRight refusal t x a) (NotRight refusal' t' y b) =
-    a ∙ ap (λ (r : Refusal). Refuses (diagnostic.Refused r)) (some_is refusal refusal' (sym x ∙ y)) ∙ sym b
+one_check widths tree outcome other (Accepted x a) (Accepted y b) = a ∙ sym b
+one_check widths tree outcome other (Accepted x a) (Broken refusal y b) = absurd (accepted_or_broken widths tree refusal x y)
+one_check widths tree outcome other (Broken refusal x a) (Accepted y b) = absurd (accepted_or_broken widths tree refusal y x)
+one_check widths tree outcome other (Broken refusal x a) (Broken refusal' y b) = a ∙ ap refused_as (one_first widths tree refusal refusal' x y) ∙ sym b
+
+-- an entry is found, or refused
+ready_or_bad : (request : FileRequest) (tree : ProgramTree) (refusal : Refusal) → IsReady request tree → IsBadEntry request tree refusal → ⊥
+ready_or_bad request tree refusal ready bad = let none = ready.entry in let some = bad.broken in cc
 
 one_compile : (request : FileRequest) (tree : ProgramTree) (outcome other : Outcome) → CompileAnswer request tree outcome → CompileAnswer request tree other → outcome ≡ other
-one_compile request tree outcome other (Built f x a) (Built g y b) = a ∙ ap (λ (h : Function). Prints (file_text (file_of request.widths request.inverse h))) (one_function tree f g x y) ∙ sym b
-one_compile request tree outcome other (Built f x a) (NotBuilt none b) = absurd (none f x)
-one_compile request tree outcome other (NotBuilt none a) (Built g y b) = absurd (none g y)
-one_compile request tree outcome other (NotBuilt none a) (NotBuilt none' b) = a ∙ sym b
+one_compile request tree outcome other (compile.Broken refusal x a) (compile.Broken refusal' y b) = a ∙ ap refused_as (one_first request.widths tree refusal refusal' x y) ∙ sym b
+one_compile request tree outcome other (compile.Broken refusal x a) (BadEntry refusal' y b) = absurd (accepted_or_broken request.widths tree refusal y.accepted x)
+one_compile request tree outcome other (compile.Broken refusal x a) (Built g y is b) = absurd (accepted_or_broken request.widths tree refusal y.accepted x)
+one_compile request tree outcome other (compile.Broken refusal x a) (NotBuilt y none b) = absurd (accepted_or_broken request.widths tree refusal y.accepted x)
+one_compile request tree outcome other (BadEntry refusal x a) (compile.Broken refusal' y b) = absurd (accepted_or_broken request.widths tree refusal' x.accepted y)
+one_compile request tree outcome other (BadEntry refusal x a) (BadEntry refusal' y b) = a ∙ ap refused_as (some_is refusal refusal' (sym x.broken ∙ y.broken)) ∙ sym b
+one_compile request tree outcome other (BadEntry refusal x a) (Built g y is b) = absurd (ready_or_bad request tree refusal y x)
+one_compile request tree outcome other (BadEntry refusal x a) (NotBuilt y none b) = absurd (ready_or_bad request tree refusal y x)
+one_compile request tree outcome other (Built f x is a) (compile.Broken refusal y b) = absurd (accepted_or_broken request.widths tree refusal x.accepted y)
+one_compile request tree outcome other (Built f x is a) (BadEntry refusal y b) = absurd (ready_or_bad request tree refusal x y)
+one_compile request tree outcome other (Built f x is a) (Built g y is' b) = a ∙ ap (λ (h : Function). Prints (file_text (file_of request.widths request.inverse h))) (one_function tree f g is is') ∙ sym b
+one_compile request tree outcome other (Built f x is a) (NotBuilt y none b) = absurd (none f is)
+one_compile request tree outcome other (NotBuilt x none a) (compile.Broken refusal y b) = absurd (accepted_or_broken request.widths tree refusal x.accepted y)
+one_compile request tree outcome other (NotBuilt x none a) (BadEntry refusal y b) = absurd (ready_or_bad request tree refusal x y)
+one_compile request tree outcome other (NotBuilt x none a) (Built g y is b) = absurd (none g is)
+one_compile request tree outcome other (NotBuilt x none a) (NotBuilt y none' b) = a ∙ sym b
 
 one_source : (bytes : List ℕ) (OnProgram : ProgramTree → Outcome → Type 0) (outcome other : Outcome) → ((tree : ProgramTree) → OnProgram tree outcome → OnProgram tree other → outcome ≡ other) →
     SourceAnswer bytes OnProgram outcome → SourceAnswer bytes OnProgram other → outcome ≡ other

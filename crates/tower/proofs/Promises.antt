@@ -18,9 +18,10 @@ use Rattle.tower.specs.Outcomes.{Outcome, Prints, Refuses, outcome_status, outco
 use Rattle.tower.specs.Sources.{SourceAnswer, OnTree, NoProgram}
 use Rattle.tower.specs.GateInputs.{GatesAnswer, OnPrefix, WrongLine, PastLimit}
 use Rattle.tw_types.specs.Types.{Widths}
-use Rattle.tower.specs.Check.{CheckAnswer, Accepted, IllTyped, NotRight, Checked}
+use Rattle.tower.specs.Check.{CheckAnswer, Accepted, Broken, Checked}
 use Rattle.tower.specs.Format.{FormatAnswer, Formatted}
-use Rattle.tower.specs.Compile.{CompileAnswer, Built, NotBuilt, Compiled, file_of}
+use Rattle.tower.specs.Compile as compile
+use Rattle.tower.specs.Compile.{CompileAnswer, BadEntry, Built, NotBuilt, Compiled, file_of}
 use Rattle.tower.specs.Invert as invert
 use Rattle.tower.specs.Invert.{InvertAnswer, Inverted, inverse_file}
 use Rattle.tower.specs.Simulate as simulate
@@ -29,6 +30,7 @@ use Rattle.tower.specs.Answer.{InputAnswer, Answer, OnInput, TooLong, Usage, Gav
 use Rattle.tower.proofs.Compiles.{compiled}
 use Rattle.tower.proofs.TypesDenoted.{denoted-booleans}
 use Rattle.tower.proofs.OneRequest.{one_request}
+use Rattle.tower.proofs.Ranges.{widths_in_range}
 use Rattle.tower.proofs.WhenEnded.{if_told, told_answer, refusal_not_ok}
 
 text_is : (text other : List ℕ) → Prints text ≡ Prints other → text ≡ other
@@ -43,25 +45,27 @@ module _ (bytes text : List ℕ) (before now : Option (List ℕ)) (took : Append
   formats (NoProgram refusal refused e) = absurd (no_text text _ e)
 
   checks_tree : (widths : Widths) (tree : ProgramTree) → IsSource bytes tree → CheckAnswer widths tree (Prints text) → Checked widths bytes before now
-  checks_tree widths tree source (Accepted typed right e) = record { tree = tree; source = source; typed = typed; right = right; printed = subst (Appends before now) (text_is text _ e) took }
-  checks_tree widths tree source (IllTyped refusal refused e) = absurd (no_text text _ e)
-  checks_tree widths tree source (NotRight refusal typed broken e) = absurd (no_text text _ e)
+  checks_tree widths tree source (Accepted accepted e) = record { tree = tree; source = source; accepted = accepted; printed = subst (Appends before now) (text_is text _ e) took }
+  checks_tree widths tree source (Broken refusal broken e) = absurd (no_text text _ e)
 
   checks : (widths : Widths) → SourceAnswer bytes (CheckAnswer widths) (Prints text) → Checked widths bytes before now
   checks widths (OnTree tree source is) = checks_tree widths tree source is
   checks widths (NoProgram refusal refused e) = absurd (no_text text _ e)
 
   compiles_tree : (request : FileRequest) → request.widths.addr ≤ 8 → (tree : ProgramTree) → IsSource bytes tree → CompileAnswer request tree (Prints text) → Compiled request bytes before now
-  compiles_tree request narrow tree source (Built function first e) = record {
+  compiles_tree request narrow tree source (Built function ready first e) = record {
     tree = tree;
     source = source;
+    ready = ready;
     function = function;
     first = first;
     file = file_of request.widths request.inverse function;
     printed = subst (Appends before now) (text_is text _ e) took;
     compiled = compiled request first.conjunction (denoted-booleans first.fun function first.denoted) first.one_or_two.1 narrow;
   }
-  compiles_tree request narrow tree source (NotBuilt none e) = absurd (no_text text _ e)
+  compiles_tree request narrow tree source (NotBuilt ready none e) = absurd (no_text text _ e)
+  compiles_tree request narrow tree source (compile.Broken refusal broken e) = absurd (no_text text _ e)
+  compiles_tree request narrow tree source (BadEntry refusal bad e) = absurd (no_text text _ e)
 
   compiles : (request : FileRequest) → request.widths.addr ≤ 8 → SourceAnswer bytes (CompileAnswer request) (Prints text) → Compiled request bytes before now
   compiles request narrow (OnTree tree source is) = compiles_tree request narrow tree source is
@@ -126,7 +130,7 @@ Promise Invert before now bytes = Inverted bytes before now
 kept : (request : Request) (words : List (List ℕ)) (bytes text : List ℕ) (before now : Option (List ℕ)) → Asks words request → Appends before now text → InputAnswer request bytes (Prints text) → Promise request before now bytes
 kept Format words bytes text before now asks took is = formats bytes text before now took is
 kept (Check widths) words bytes text before now asks took is = checks bytes text before now took widths is
-kept (Compile request) words bytes text before now asks took is = compiles bytes text before now took request asks.in_range.addr_to is
+kept (Compile request) words bytes text before now asks took is = compiles bytes text before now took request (widths_in_range words request asks).addr_to is
 kept Simulate words bytes text before now asks took is = simulates bytes text before now took is
 kept Invert words bytes text before now asks took is = inverts bytes text before now took is
 

@@ -1,5 +1,5 @@
--- The values that were given to the keys, compared with those of a request.
-use Rattle.std.proofs.Common.{◌≡◌, ◌≢◌, ◌∙◌, ap, sym, subst, ℕ, ◌<◌, ◌≤◌, ◌^◌, Bool, true, false, if◌then◌else◌, List, [], ◌∷◌, ◌++◌, length, drop, codes, decimal, Option, Some, None, is_some, IfSome, option_map, option_to_list, slice_get, arith, append-nil, refl}
+-- The values that are given to the keys, and the settings that they make.
+use Rattle.std.proofs.Common.{◌≡◌, ◌∙◌, ap, sym, subst, ℕ, ◌<◌, ◌≤◌, ◌^◌, Bool, true, false, if◌then◌else◌, List, [], ◌∷◌, ◌++◌, length, decimal, Option, Some, None, is_some, IfSome, option_map, option_to_list, arith, append-nil, refl}
 use Rattle.std.specs.Option.{IfNone}
 use denote.Ref.{Bor}
 use Rattle.std.specs.List.{flat_map}
@@ -7,137 +7,174 @@ use Rattle.std.proofs.lemmas.Fmt.{decimal_injective}
 use Rattle.tw_types.specs.Types.{Widths, AreInRange}
 use Rattle.tower.specs.declared.options.Key.{Key}
 use Rattle.tower.specs.declared.options.Key.TheVariants as key
-use Rattle.tower.specs.Requests.{FileRequest, Choice, is_flag, choice_words, values_of, wanted, wanted_widths, AsksWith, AsksCheck, AsksFile}
-use Rattle.tower.specs.Given.{value_given, given_to, AreGiven, AreNotGiven, HasWidths, AreValues, AreWanted, AreWidths}
+use Rattle.tower.specs.declared.settings.Settings as code
+use Rattle.tower.specs.Requests.{Settings, Choice, choice_words, values_of, number_value, wanted, greatest_bound, AreOptions}
+use Rattle.tower.specs.Given.{settings_seen, value_given, value_text, given_to, AreGiven, AreNotGiven, SpellWidths, SetWidths, SetNumber}
 use Rattle.tower.proofs.Choices.{Continues, continues, nil_cons, head_is}
-
-given_none : (values : List (Option (Bor (List ℕ)))) (k : Key) → value_given values k ≡ None → given_to values k ≡ []
-given_none values k e = ap (λ (o : Option (Bor (List ℕ))). option_to_list (option_map (λ text. if is_flag k then [] else text.now) o)) e
-
-given_some : (values : List (Option (Bor (List ℕ)))) (k : Key) (v : Bor (List ℕ)) → value_given values k ≡ Some v → given_to values k ≡ (if is_flag k then [] else v.now) ∷ []
-given_some values k v e = ap (λ (o : Option (Bor (List ℕ))). option_to_list (option_map (λ text. if is_flag k then [] else text.now) o)) e
-
--- a key without a value that needs one
-pub no_value : (values : List (Option (Bor (List ℕ)))) (k : Key) → value_given values k ≡ None → (w : List ℕ) → given_to values k ≡ w ∷ [] → ⊥
-no_value values k none w has = nil_cons w [] (sym (given_none values k none) ∙ has)
-
--- the value of a key that is no flag
-value_is : (values : List (Option (Bor (List ℕ)))) (k : Key) (v : Bor (List ℕ)) → value_given values k ≡ Some v → is_flag k ≡ false → (w : List ℕ) → given_to values k ≡ w ∷ [] → v.now ≡ w
-value_is values k v given flag w has =
-    let same = sym (given_some values k v given) ∙ has in
-    subst (λ (b : Bool). (if b then [] else v.now) ≡ w) flag (head_is (if is_flag k then [] else v.now) w [] [] same)
-
-pub other_word : (values : List (Option (Bor (List ℕ)))) (v : Bor (List ℕ)) → value_given values key.Word ≡ Some v → ((n : ℕ) → n < 2 ^ 32 → v.now ≡ decimal n → ⊥) → (widths : Widths) → HasWidths values widths → ⊥
-other_word values v given none widths has = none widths.word (omega (arith, has.in_range.word_to)) (value_is values key.Word v given refl _ has.word)
-
-pub other_addr : (values : List (Option (Bor (List ℕ)))) (v : Bor (List ℕ)) → value_given values key.Addr ≡ Some v → ((n : ℕ) → n < 2 ^ 32 → v.now ≡ decimal n → ⊥) → (widths : Widths) → HasWidths values widths → ⊥
-other_addr values v given none widths has = none widths.addr (omega (arith, has.in_range.addr_to)) (value_is values key.Addr v given refl _ has.addr)
-
-pub other_entry : (values : List (Option (Bor (List ℕ)))) (v : Bor (List ℕ)) → value_given values key.Entry ≡ Some v → v.now ≢ codes "main" → (request : FileRequest) → AreWanted values request → ⊥
-other_entry values v given other request are = other (value_is values key.Entry v given refl _ (are.each key.Entry))
-
--- widths out of range are no widths
-pub out_of_range : (values : List (Option (Bor (List ℕ)))) (v w : Bor (List ℕ)) (word addr : ℕ) → word < 2 ^ 32 → addr < 2 ^ 32 → value_given values key.Word ≡ Some v → value_given values key.Addr ≡ Some w → v.now ≡ decimal word → w.now ≡ decimal addr →
-    (AreInRange (record { word = word; addr = addr }) → ⊥) → (widths : Widths) → HasWidths values widths → ⊥
-out_of_range values v w word addr small narrow given also is too out widths has =
-    let same : widths.word ≡ word = decimal_injective _ _ (omega (arith, has.in_range.word_to)) (omega (arith, small)) (sym (value_is values key.Word v given refl _ has.word) ∙ is) in
-    let same' : widths.addr ≡ addr = decimal_injective _ _ (omega (arith, has.in_range.addr_to)) (omega (arith, narrow)) (sym (value_is values key.Addr w also refl _ has.addr) ∙ too) in
-    let range = has.in_range in
-    out (record { word_from = subst (λ n. 1 ≤ n) same range.word_from; word_to = rw (sym same) range.word_to; addr_from = subst (λ n. 1 ≤ n) same' range.addr_from; addr_to = rw (sym same') range.addr_to })
-
--- a request has its widths
-pub widths_of_file : (values : List (Option (Bor (List ℕ)))) (request : FileRequest) → AreWanted values request → HasWidths values request.widths
-widths_of_file values request are = record { word = are.each key.Word; addr = are.each key.Addr; in_range = are.in_range }
-
-pub widths_of_check : (values : List (Option (Bor (List ℕ)))) (widths : Widths) → AreWidths values widths → HasWidths values widths
-widths_of_check values widths are = record { word = are.each key.Word; addr = are.each key.Addr; in_range = are.in_range }
-
--- a check has no other values
-pub given_too_much : (values : List (Option (Bor (List ℕ)))) (k : Key) → is_some (value_given values k) ≡ true → given_to values k ≡ [] → ⊥
-given_too_much values k there none = by (value_given values k) refl there
-  where
-    by : (found : Option (Bor (List ℕ))) → value_given values k ≡ found → is_some found ≡ true → ⊥
-    by None is there = absurd (cc there)
-    by (Some v) is there = nil_cons _ [] (sym none ∙ given_some values k v is)
-
-pub none_is_none : {A : Type 0} (found : Option A) → is_some found ≡ true → found ≡ None → ⊥
-none_is_none None there is = absurd (cc there)
-none_is_none (Some x) there is = absurd (cc is)
 
 -- what holds if nothing is found
 pub if_missing : {A : Type 0} {P : Type 0} (found : Option A) → (found ≡ None → P) → IfNone found P
 if_missing None holds = holds refl
 if_missing (Some x) holds = tt
 
-wanted_once : (k : Key) (request : FileRequest) → length (wanted k request) ≤ 1
-wanted_once key.Word request = omega arith
-wanted_once key.Addr request = omega arith
-wanted_once key.Entry request = omega arith
-wanted_once key.Inverse request = by_flag request.inverse
+pub none_is_none : {A : Type 0} (found : Option A) → is_some found ≡ true → found ≡ None → ⊥
+none_is_none None there is = absurd (cc there)
+none_is_none (Some x) there is = absurd (cc is)
+
+-- numbers
+
+once : {A : Type 0} (value : Option A) → length (option_to_list value) ≤ 1
+once None = omega arith
+once (Some x) = omega arith
+
+one_number : (most : ℕ) (m n : Option ℕ) → most < 2 ^ 64 → IfSome m (λ i. i ≤ most) → IfSome n (λ i. i ≤ most) → number_value m ≡ number_value n → m ≡ n
+one_number most None None small x y e = refl
+one_number most (Some i) (Some j) small x y e = ap Some (decimal_injective i j (omega (arith, small, x)) (omega (arith, small, y)) (head_is _ _ [] [] e))
+one_number most None (Some j) small x y e = absurd (nil_cons _ _ e)
+one_number most (Some i) None small x y e = absurd (nil_cons _ _ (sym e))
+
+-- widths
+
+same_widths : (w w' a a' : ℕ) → w ≡ w' → a ≡ a' → ◌≡◌ {A = Widths} (record { word = w; addr = a }) (record { word = w'; addr = a' })
+same_widths w w' a a' e f = cc
+
+-- widths in range that are spelled the same are the same
+one_spelling : (widths other : Widths) → AreInRange widths → AreInRange other → decimal widths.word ≡ decimal other.word → decimal widths.addr ≡ decimal other.addr → widths ≡ other
+one_spelling widths other x y word addr =
+    same_widths _ _ _ _ (decimal_injective widths.word other.word (omega (arith, x.word_to)) (omega (arith, y.word_to)) word)
+    (decimal_injective widths.addr other.addr (omega (arith, x.addr_to)) (omega (arith, y.addr_to)) addr)
+
+one_widths : (u v : Option Widths) → IfSome u AreInRange → IfSome v AreInRange → number_value (option_map (λ widths. widths.word) u) ≡ number_value (option_map (λ widths. widths.word) v)
+    → number_value (option_map (λ widths. widths.addr) u) ≡ number_value (option_map (λ widths. widths.addr) v) → u ≡ v
+one_widths None None x y word addr = refl
+one_widths (Some u) (Some v) x y word addr = ap Some (one_spelling u v x y (head_is _ _ [] [] word) (head_is _ _ [] [] addr))
+one_widths None (Some v) x y word addr = absurd (nil_cons _ _ word)
+one_widths (Some u) None x y word addr = absurd (nil_cons _ _ (sym word))
+
+-- widths out of range are spelled by nothing
+pub out_of_range : (word addr : List ℕ) (w a : ℕ) → w < 2 ^ 32 → a < 2 ^ 32 → word ≡ decimal w → addr ≡ decimal a → (AreInRange (record { word = w; addr = a }) → ⊥) → (widths : Widths) → SpellWidths word addr widths → ⊥
+out_of_range word addr w a small narrow is too out widths spell =
+    let range = spell.in_range in
+    let same : widths.word ≡ w = decimal_injective _ _ (omega (arith, range.word_to)) (omega (arith, small)) (sym spell.word_is ∙ is) in
+    let same' : widths.addr ≡ a = decimal_injective _ _ (omega (arith, range.addr_to)) (omega (arith, narrow)) (sym spell.addr_is ∙ too) in
+    out (record { word_from = subst (λ n. 1 ≤ n) same range.word_from; word_to = rw (sym same) range.word_to; addr_from = subst (λ n. 1 ≤ n) same' range.addr_from; addr_to = rw (sym same') range.addr_to })
+
+pub spelled_widths : (word addr : List ℕ) (widths : Widths) → SpellWidths word addr widths → SetWidths (word ∷ []) (addr ∷ []) (Some widths)
+spelled_widths word addr widths spell = record { word_is = ap (λ w. w ∷ []) spell.word_is; addr_is = ap (λ w. w ∷ []) spell.addr_is; in_range = spell.in_range }
+
+pub unspelled_widths : (word addr : List ℕ) → ((widths : Widths) → SpellWidths word addr widths → ⊥) → (widths : Option Widths) → SetWidths (word ∷ []) (addr ∷ []) widths → ⊥
+unspelled_widths word addr none None set = nil_cons _ _ (sym set.word_is)
+unspelled_widths word addr none (Some widths) set = none widths (record { word_is = head_is _ _ [] [] set.word_is; addr_is = head_is _ _ [] [] set.addr_is; in_range = set.in_range })
+
+-- one width alone sets no widths
+pub word_alone : (word : List ℕ) (widths : Option Widths) → SetWidths (word ∷ []) [] widths → ⊥
+word_alone word None set = nil_cons _ _ (sym set.word_is)
+word_alone word (Some widths) set = nil_cons _ _ set.addr_is
+
+pub addr_alone : (addr : List ℕ) (widths : Option Widths) → SetWidths [] (addr ∷ []) widths → ⊥
+addr_alone addr None set = nil_cons _ _ (sym set.addr_is)
+addr_alone addr (Some widths) set = nil_cons _ _ set.word_is
+
+pub no_number : (most : ℕ) (text : List ℕ) → ((n : ℕ) → n ≤ most → text ≡ decimal n → ⊥) → (number : Option ℕ) → SetNumber most (text ∷ []) number → ⊥
+no_number most text none None set = nil_cons _ _ (sym set.is)
+no_number most text none (Some n) set = none n set.in_range (head_is _ _ [] [] set.is)
+
+-- options and settings
+
+one_entry : (e f : Option (List ℕ)) → option_to_list e ≡ option_to_list f → e ≡ f
+one_entry None None e = refl
+one_entry (Some x) (Some y) e = ap Some (head_is _ _ [] [] e)
+one_entry None (Some y) e = absurd (nil_cons _ _ e)
+one_entry (Some x) None e = absurd (nil_cons _ _ (sym e))
+
+one_flag : (x y : Bool) → ◌≡◌ {A = List (List ℕ)} (if x then [] ∷ [] else []) (if y then [] ∷ [] else []) → x ≡ y
+one_flag true true e = refl
+one_flag false false e = refl
+one_flag true false e = cc
+one_flag false true e = cc
+
+same_settings : (w w' : Option Widths) (e e' : Option (List ℕ)) (b b' : Option ℕ) (i i' : Bool) → w ≡ w' → e ≡ e' → b ≡ b' → i ≡ i' →
+    ◌≡◌ {A = Settings} (record { widths = w; entry = e; bound = b; inverse = i }) (record { widths = w'; entry = e'; bound = b'; inverse = i' })
+same_settings w w' e e' b b' i i' p q r s = cc
+
+-- arguments are the options of at most one settings
+pub one_settings : (words : List (List ℕ)) (settings other : Settings) → AreOptions words settings → AreOptions words other → settings ≡ other
+one_settings words settings other x y = by_rest (continues x.choices y.choices [] (sym x.spelled ∙ y.spelled ∙ sym (append-nil _)))
+  where
+    by_values : ((k : Key) → wanted settings k ≡ wanted other k) → settings ≡ other
+    by_values same =
+        same_settings _ _ _ _ _ _ _ _
+        (one_widths settings.widths other.widths x.widths_in_range y.widths_in_range (same key.Word) (same key.Addr))
+        (one_entry settings.entry other.entry (same key.Entry))
+        (one_number greatest_bound settings.bound other.bound (omega arith) x.bound_in_range y.bound_in_range (same key.Bound))
+        (one_flag settings.inverse other.inverse (same key.Inverse))
+
+    by_rest : Continues x.choices y.choices [] → settings ≡ other
+    by_rest further = by_list further.more further.spelled further.each
+      where
+        by_list : (more : List Choice) → [] ≡ flat_map choice_words more → ((k : Key) → values_of k x.choices ≡ values_of k y.choices ++ values_of k more) → settings ≡ other
+        by_list [] spelled each = by_values (λ k. sym (x.values k) ∙ (each k ∙ (append-nil (values_of k y.choices) ∙ y.values k)))
+        by_list (choice ∷ more) spelled each = absurd (nil_cons _ _ spelled)
+
+-- options that were read have the values of the settings that they make
+same_given : (words : List (List ℕ)) (values : List (Option (Bor (List ℕ)))) (settings : Settings) → AreGiven words [] values → AreOptions words settings → (k : Key) → given_to values k ≡ wanted settings k
+same_given words values settings given are = by_rest (continues are.choices given.choices [] (sym are.spelled ∙ given.spelled))
+  where
+    by_rest : Continues are.choices given.choices [] → (k : Key) → given_to values k ≡ wanted settings k
+    by_rest further = by_list further.more further.spelled further.each
+      where
+        by_list : (more : List Choice) → [] ≡ flat_map choice_words more → ((k : Key) → values_of k are.choices ≡ values_of k given.choices ++ values_of k more) → (k : Key) → given_to values k ≡ wanted settings k
+        by_list [] spelled each k = sym (given.each k) ∙ (sym (append-nil (values_of k given.choices)) ∙ (sym (each k) ∙ are.values k))
+        by_list (choice ∷ more) spelled each k = absurd (nil_cons _ _ spelled)
+
+wanted_once : (settings : Settings) (k : Key) → length (wanted settings k) ≤ 1
+wanted_once settings key.Word = once _
+wanted_once settings key.Addr = once _
+wanted_once settings key.Entry = once _
+wanted_once settings key.Bound = once _
+wanted_once settings key.Inverse = by_flag settings.inverse
   where
     by_flag : (inverse : Bool) → length {A = List ℕ} (if inverse then [] ∷ [] else []) ≤ 1
     by_flag true = omega arith
     by_flag false = omega arith
 
-widths_once : (k : Key) (widths : Widths) → length (wanted_widths k widths) ≤ 1
-widths_once key.Word widths = omega arith
-widths_once key.Addr widths = omega arith
-widths_once key.Entry widths = omega arith
-widths_once key.Inverse widths = omega arith
+-- arguments of which one is no option, or is given twice, make no settings
+pub no_options : (words : List (List ℕ)) → AreNotGiven words → (settings : Settings) → AreOptions words settings → ⊥
+no_options words none settings are = none are.choices are.spelled (λ k. rw (are.values k) (wanted_once settings k))
 
--- arguments that are no options are no request with options
-pub no_options : (words : List (List ℕ)) → AreNotGiven (drop 1 words) → (request : FileRequest) → AsksFile words request → ⊥
-no_options words none request asks =
-    none asks.choices (ap (drop 1) asks.spelled) (λ k. rw (asks.values k) (wanted_once k request))
+-- so do options whose values set no widths, or no bound
+pub no_widths : (words : List (List ℕ)) (values : List (Option (Bor (List ℕ)))) → AreGiven words [] values
+    → ((widths : Option Widths) → SetWidths (given_to values key.Word) (given_to values key.Addr) widths → ⊥) → (settings : Settings) → AreOptions words settings → ⊥
+no_widths words values given none settings are =
+    let same = same_given words values settings given are in
+    none settings.widths (record { word_is = same key.Word; addr_is = same key.Addr; in_range = are.widths_in_range })
 
-pub no_widths : (words : List (List ℕ)) → AreNotGiven (drop 1 words) → (widths : Widths) → AsksCheck words widths → ⊥
-no_widths words none widths asks =
-    none asks.choices (ap (drop 1) asks.spelled) (λ k. rw (asks.values k) (widths_once k widths))
+pub no_bound : (words : List (List ℕ)) (values : List (Option (Bor (List ℕ)))) → AreGiven words [] values
+    → ((bound : Option ℕ) → SetNumber greatest_bound (given_to values key.Bound) bound → ⊥) → (settings : Settings) → AreOptions words settings → ⊥
+no_bound words values given none settings are = none settings.bound (record { is = same_given words values settings given are key.Bound; in_range = are.bound_in_range })
 
--- options with other values are not those of a request
-not_values : (command : List ℕ) (wanted_of : Key → List (List ℕ)) (widths : Widths) (words : List (List ℕ)) (values : List (Option (Bor (List ℕ)))) → AreGiven (drop 1 words) [] values
-    → (AreValues wanted_of widths values → ⊥) → AsksWith command wanted_of widths words → ⊥
-not_values command wanted_of widths words values given none asks = by_rest (continues asks.choices given.choices [] (sym (ap (drop 1) asks.spelled) ∙ given.spelled))
-  where
-    by_rest : Continues asks.choices given.choices [] → ⊥
-    by_rest further = by_list further.more further.spelled further.each
-      where
-        by_list : (more : List Choice) → [] ≡ flat_map choice_words more → ((k : Key) → values_of k asks.choices ≡ values_of k given.choices ++ values_of k more) → ⊥
-        by_list [] spelled each = none (record { each = λ k. sym (given.each k) ∙ (sym (append-nil (values_of k given.choices)) ∙ (sym (each k) ∙ asks.values k)); in_range = asks.in_range })
-        by_list (choice ∷ more) spelled each = nil_cons _ _ spelled
-
-pub not_wanted : (words : List (List ℕ)) (values : List (Option (Bor (List ℕ)))) → AreGiven (drop 1 words) [] values → ((request : FileRequest) → AreWanted values request → ⊥) → (request : FileRequest) → AsksFile words request → ⊥
-not_wanted words values given none request asks = not_values (codes "compile") (λ k. wanted k request) request.widths words values given (none request) asks
-
-pub not_widths : (words : List (List ℕ)) (values : List (Option (Bor (List ℕ)))) → AreGiven (drop 1 words) [] values → ((widths : Widths) → AreWidths values widths → ⊥) → (widths : Widths) → AsksCheck words widths → ⊥
-not_widths words values given none widths asks = not_values (codes "check") (λ k. wanted_widths k widths) widths words values given (none widths) asks
-
--- options with the wanted values are the request
-asks_with : (command : List ℕ) (wanted_of : Key → List (List ℕ)) (widths : Widths) (words : List (List ℕ)) (values : List (Option (Bor (List ℕ)))) → slice_get words 0 ≡ Some command
-    → AreGiven (drop 1 words) [] values → AreValues wanted_of widths values → AsksWith command wanted_of widths words
-asks_with command wanted_of widths [] values first given are = absurd (cc first)
-asks_with command wanted_of widths (word ∷ words) values first given are = record {
+-- options that were read make the settings with their values
+pub are_options : (words : List (List ℕ)) (values : List (Option (Bor (List ℕ)))) (settings : code.Settings) → AreGiven words [] values
+    → SetWidths (given_to values key.Word) (given_to values key.Addr) settings.widths → SetNumber greatest_bound (given_to values key.Bound) settings.bound
+    → settings.entry ≡ value_given values key.Entry → settings.inverse ≡ is_some (value_given values key.Inverse) → AreOptions words (settings_seen settings)
+are_options words values settings given widths bound entry inverse = record {
   choices = given.choices;
-  spelled = rw (first_is word words first, given.spelled) (ap (λ r. command ∷ r) (append-nil _));
-  values = λ k. given.each k ∙ are.each k;
-  in_range = are.in_range;
+  spelled = given.spelled ∙ append-nil _;
+  values = λ k. given.each k ∙ each k;
+  widths_in_range = widths.in_range;
+  bound_in_range = bound.in_range;
 }
   where
-    first_is : (word : List ℕ) (words : List (List ℕ)) → slice_get (word ∷ words) 0 ≡ Some command → word ≡ command
-    first_is word words e = cc
+    flag : (value : Option (Bor (List ℕ))) → ◌≡◌ {A = List (List ℕ)} (option_to_list (option_map (λ (text : Bor (List ℕ)). []) value)) (if is_some value then [] ∷ [] else [])
+    flag None = refl
+    flag (Some text) = refl
 
-pub asks_file : (words : List (List ℕ)) (values : List (Option (Bor (List ℕ)))) (request : FileRequest) → slice_get words 0 ≡ Some (codes "compile") → AreGiven (drop 1 words) [] values → AreWanted values request → AsksFile words request
-asks_file words values request first given are = asks_with (codes "compile") (λ k. wanted k request) request.widths words values first given are
+    flag_value : Bool → List (List ℕ)
+    flag_value is = if is then [] ∷ [] else []
 
-pub asks_check : (words : List (List ℕ)) (values : List (Option (Bor (List ℕ)))) (widths : Widths) → slice_get words 0 ≡ Some (codes "check") → AreGiven (drop 1 words) [] values → AreWidths values widths → AsksCheck words widths
-asks_check words values widths first given are = asks_with (codes "check") (λ k. wanted_widths k widths) widths words values first given are
-
--- one argument alone
-pub alone_is : (words : List (List ℕ)) (word : List ℕ) → slice_get words 0 ≡ Some word → length words ≡ 1 → words ≡ word ∷ []
-alone_is [] word first one = cc
-alone_is (other ∷ []) word first one = cc
-alone_is (other ∷ more ∷ words) word first one = absurd (omega (arith, one))
-
-pub if_found : {A : Type 0} {P Q : A → Type 0} → (found : Option A) → ((x : A) → P x → Q x) → IfSome found P → IfSome found Q
-if_found None keeps is = tt
-if_found (Some x) keeps is = keeps x is
+    each : (k : Key) → given_to values k ≡ wanted (settings_seen settings) k
+    each key.Word = widths.word_is
+    each key.Addr = widths.addr_is
+    each key.Entry = ap value_text (sym entry)
+    each key.Bound = bound.is
+    each key.Inverse = flag (value_given values key.Inverse) ∙ ap flag_value (sym inverse)

@@ -14,9 +14,10 @@ use Rattle.tower.specs.Outcomes.{Outcome, Prints, Refuses, rule_status, refusal_
 use Rattle.tower.specs.Sources.{SourceAnswer, OnTree, NoProgram}
 use Rattle.tower.specs.GateInputs.{GatesAnswer, OnPrefix, WrongLine, PastLimit}
 use Rattle.tw_types.specs.Types.{Widths}
-use Rattle.tower.specs.Check.{CheckAnswer, Accepted, IllTyped, NotRight}
+use Rattle.tower.specs.Check.{CheckAnswer, Accepted, Broken}
 use Rattle.tower.specs.Format.{FormatAnswer}
-use Rattle.tower.specs.Compile.{CompileAnswer, Built, NotBuilt}
+use Rattle.tower.specs.Compile as compile
+use Rattle.tower.specs.Compile.{CompileAnswer, BadEntry, Built, NotBuilt}
 use Rattle.tower.specs.Invert as invert
 use Rattle.tower.specs.Invert.{InvertAnswer}
 use Rattle.tower.specs.Simulate as simulate
@@ -65,13 +66,14 @@ gates-not_usage bytes OnFile outcome on_file (WrongLine line is e) = ap not_usag
 gates-not_usage bytes OnFile outcome on_file (PastLimit refusal is e) = ap not_usage e
 
 check-not_usage : (widths : Widths) (tree : ProgramTree) (outcome : Outcome) → CheckAnswer widths tree outcome → not_usage outcome ≡ true
-check-not_usage widths tree outcome (Accepted typed right e) = ap not_usage e
-check-not_usage widths tree outcome (IllTyped refusal refused e) = ap not_usage e
-check-not_usage widths tree outcome (NotRight refusal typed broken e) = ap not_usage e
+check-not_usage widths tree outcome (Accepted accepted e) = ap not_usage e
+check-not_usage widths tree outcome (Broken refusal broken e) = ap not_usage e
 
 compile-not_usage : (request : FileRequest) (tree : ProgramTree) (outcome : Outcome) → CompileAnswer request tree outcome → not_usage outcome ≡ true
-compile-not_usage request tree outcome (Built function first e) = ap not_usage e
-compile-not_usage request tree outcome (NotBuilt none e) = ap not_usage e
+compile-not_usage request tree outcome (compile.Broken refusal broken e) = ap not_usage e
+compile-not_usage request tree outcome (BadEntry refusal bad e) = ap not_usage e
+compile-not_usage request tree outcome (Built function ready first e) = ap not_usage e
+compile-not_usage request tree outcome (NotBuilt ready none e) = ap not_usage e
 
 source-not_usage : (bytes : List ℕ) (OnProgram : ProgramTree → Outcome → Type 0) (outcome : Outcome) → ((tree : ProgramTree) → OnProgram tree outcome → not_usage outcome ≡ true) → SourceAnswer bytes OnProgram outcome → not_usage outcome ≡ true
 source-not_usage bytes OnProgram outcome on_program (OnTree tree source is) = on_program tree is

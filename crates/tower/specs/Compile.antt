@@ -1,6 +1,7 @@
 -- The answer to `compile`, and the headline: what a printed gate file promises of its program.
 use Rattle.std.specs.Prelude.{◌≡◌, ℕ, Bool, false, List, [], ◌++◌, Option}
 use Rattle.tw_io.specs.Devices.{Appends}
+use Rattle.tw_text.specs.declared.refusal.Refusal.{Refusal}
 use Rattle.tw_text.specs.declared.diagnostic.Diagnostic.TheVariants as diagnostic
 use Rattle.tw_syntax.specs.Programs.{ProgramTree}
 use Rattle.tw_parse.specs.Sources.{IsSource}
@@ -16,6 +17,7 @@ use Rattle.tw_frames.specs.Layout.{layout_of}
 use Rattle.tw_lower.specs.Circuits.{function_gates}
 use Rattle.tw_lower.specs.Correct.{Implements}
 use Rattle.tower.specs.Requests.{FileRequest}
+use Rattle.tower.specs.Accepted.{BreaksFirst, IsReady, IsBadEntry}
 use Rattle.tower.specs.Outcomes.{Outcome, Prints, Refuses}
 use Rattle.tower.specs.FirstTree.{IsFirstTree}
 
@@ -29,10 +31,13 @@ file_of widths inverse function =
 abbrev pub IsNotBuilt : ProgramTree → Type 0
 IsNotBuilt tree = (function : Function) → ¬ IsFirstTree tree function
 
--- a program of the first form is answered by its gate file; other programs are refused as not built
+-- A program that is not accepted is answered by its first broken rule, and an accepted one without the entry by `bad-entry`. Of the
+-- others, a program of the first form is answered by its gate file, and all others are refused as not built.
 pub data CompileAnswer (request : FileRequest) (tree : ProgramTree) (outcome : Outcome) : Type 0 where
-  Built : (function : Function) → IsFirstTree tree function → outcome ≡ Prints (file_text (file_of request.widths request.inverse function)) → CompileAnswer request tree outcome
-  NotBuilt : IsNotBuilt tree → outcome ≡ Refuses diagnostic.NotBuilt → CompileAnswer request tree outcome
+  Broken : (refusal : Refusal) → BreaksFirst request.widths tree refusal → outcome ≡ Refuses (diagnostic.Refused refusal) → CompileAnswer request tree outcome
+  BadEntry : (refusal : Refusal) → IsBadEntry request tree refusal → outcome ≡ Refuses (diagnostic.Refused refusal) → CompileAnswer request tree outcome
+  Built : (function : Function) → IsReady request tree → IsFirstTree tree function → outcome ≡ Prints (file_text (file_of request.widths request.inverse function)) → CompileAnswer request tree outcome
+  NotBuilt : IsReady request tree → IsNotBuilt tree → outcome ≡ Refuses diagnostic.NotBuilt → CompileAnswer request tree outcome
 
 -- the file of a function, with what is promised of it
 pub record IsCompiled (request : FileRequest) (function : Function) (file : File) : Type 0 where
@@ -50,10 +55,11 @@ pub record IsCompiled (request : FileRequest) (function : Function) (file : File
   -- the printed T-count is the cost of the source
   pub t_count : file.t_count ≡ cost function.body
 
--- the input is a program of the first form, and the sink took the text of a file with what is promised of it
+-- the input is an accepted program of the first form with the entry, and the sink took the text of a file with what is promised of it
 pub record Compiled (request : FileRequest) (bytes : List ℕ) (before now : Option (List ℕ)) : Type 0 where
   pub tree : ProgramTree
   pub source : IsSource bytes tree
+  pub ready : IsReady request tree
   pub function : Function
   pub first : IsFirstTree tree function
   pub file : File

@@ -1,19 +1,29 @@
 -- Requests and options as the code keeps them.
-use Rattle.std.specs.Prelude.{◌≡◌, ℕ, ◌≤◌, if◌then◌else◌, List, [], ◌∷◌, ◌++◌, length, drop, get_or, Option, Some, None, option_map, option_to_list, decimal}
+use Rattle.std.specs.Prelude.{◌≡◌, ℕ, ◌≤◌, if◌then◌else◌, List, [], ◌∷◌, ◌++◌, length, drop, get_or, Option, Some, None, IfSome, option_map, option_to_list, decimal}
 use denote.Ref.{Bor}
 use Rattle.std.specs.List.{flat_map}
 use Rattle.std.specs.Str.{bytes_eq}
 use Rattle.tw_types.specs.Types.{Widths, AreInRange}
 use Rattle.tower.specs.declared.options.Key.{Key}
 use Rattle.tower.specs.declared.options.Key.TheVariants as key
+use Rattle.tower.specs.declared.settings.Settings as code
 use Rattle.tower.specs.declared.request.Options.{Options}
 use Rattle.tower.specs.declared.request.Command.{Command}
 use Rattle.tower.specs.declared.request.Command.TheVariants as command
-use Rattle.tower.specs.Requests.{FileRequest, Request, Format, Check, Compile, Simulate, Invert, Choice, key_text, is_flag, key_place, choice_words, values_of, wanted, wanted_widths}
+use Rattle.tower.specs.Requests.{FileRequest, Request, Format, Check, Compile, Simulate, Invert, Settings, Choice, key_text, is_flag, key_place, choice_words, values_of, number_value}
+
+-- the settings that the code's are
+abbrev pub settings_seen : code.Settings → Settings
+settings_seen settings = record {
+  widths = settings.widths;
+  entry = option_map (λ entry. entry.now) settings.entry;
+  bound = settings.bound;
+  inverse = settings.inverse;
+}
 
 -- the request that the options of the code are
 abbrev pub file_request : Options → FileRequest
-file_request options = record { widths = options.widths; inverse = options.inverse }
+file_request options = record { widths = options.widths; entry = options.entry.now; bound = options.bound; inverse = options.inverse }
 
 abbrev pub request_of : Command → Request
 request_of command.Format = Format
@@ -24,7 +34,7 @@ request_of command.Invert = Invert
 
 -- all keys, by their places
 abbrev pub keys : List Key
-keys = key.Word ∷ key.Addr ∷ key.Entry ∷ key.Inverse ∷ []
+keys = key.Word ∷ key.Addr ∷ key.Entry ∷ key.Bound ∷ key.Inverse ∷ []
 
 -- the first of these keys with this text
 abbrev pub key_among : List ℕ → List Key → Option Key
@@ -61,20 +71,23 @@ pub record AreGiven (words rest : List (List ℕ)) (values : List (Option (Bor (
 abbrev pub AreNotGiven : List (List ℕ) → Type 0
 AreNotGiven words = (choices : List Choice) → words ≡ flat_map choice_words choices → ((key : Key) → length (values_of key choices) ≤ 1) → ⊥
 
--- the widths are given, and in range
-pub record HasWidths (values : List (Option (Bor (List ℕ)))) (widths : Widths) : Type 0 where
-  pub word : given_to values key.Word ≡ decimal widths.word ∷ []
-  pub addr : given_to values key.Addr ≡ decimal widths.addr ∷ []
+-- a value that is given or not, as a list
+abbrev pub value_text : Option (Bor (List ℕ)) → List (List ℕ)
+value_text value = option_to_list (option_map (λ text. text.now) value)
+
+-- a word width and an address width spell these widths
+pub record SpellWidths (word addr : List ℕ) (widths : Widths) : Type 0 where
+  pub word_is : word ≡ decimal widths.word
+  pub addr_is : addr ≡ decimal widths.addr
   pub in_range : AreInRange widths
 
--- the values that are given are the wanted ones, and the widths are in range
-pub record AreValues (wanted_of : Key → List (List ℕ)) (widths : Widths) (values : List (Option (Bor (List ℕ)))) : Type 0 where
-  pub each : (key : Key) → given_to values key ≡ wanted_of key
-  pub in_range : AreInRange widths
+-- the values of the keys of the widths set these widths
+pub record SetWidths (word addr : List (List ℕ)) (widths : Option Widths) : Type 0 where
+  pub word_is : word ≡ number_value (option_map (λ widths. widths.word) widths)
+  pub addr_is : addr ≡ number_value (option_map (λ widths. widths.addr) widths)
+  pub in_range : IfSome widths AreInRange
 
--- the values are those of the request
-abbrev pub AreWanted : List (Option (Bor (List ℕ))) → FileRequest → Type 0
-AreWanted values request = AreValues (λ key. wanted key request) request.widths values
-
-abbrev pub AreWidths : List (Option (Bor (List ℕ))) → Widths → Type 0
-AreWidths values widths = AreValues (λ key. wanted_widths key widths) widths values
+-- the values of a key set a number in range
+pub record SetNumber (most : ℕ) (values : List (List ℕ)) (number : Option ℕ) : Type 0 where
+  pub is : values ≡ number_value number
+  pub in_range : IfSome number (λ n. n ≤ most)

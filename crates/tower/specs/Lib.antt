@@ -7,6 +7,7 @@ pub mod Form
 pub mod Seen
 pub mod FirstTree
 pub mod ReadingTree
+pub mod Accepted
 pub mod Check
 pub mod Compile
 pub mod Invert

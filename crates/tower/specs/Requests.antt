@@ -1,15 +1,18 @@
 -- Requests, and the command-line arguments for them: a command, then its options in any order.
-use Rattle.std.specs.Prelude.{◌≡◌, ℕ, ◌==◌, Bool, true, false, if◌then◌else◌, List, [], ◌∷◌, codes, decimal, refl}
+use Rattle.std.specs.Prelude.{◌≡◌, ℕ, ◌==◌, ◌≤◌, Bool, true, false, not, ◌&&◌, if◌then◌else◌, List, [], ◌∷◌, Option, Some, None, is_some, option_map, option_and_then, option_to_list, IfSome, codes, decimal, refl}
 use Rattle.std.specs.Fmt.{digits}
 use Rattle.std.specs.List.{flat_map}
+use Rattle.std.specs.Str.{bytes_eq}
 use Rattle.std.proofs.Common.{lit≤}
 use Rattle.tw_types.specs.Types.{Widths, AreInRange}
 use Rattle.tower.specs.declared.options.Key.{Key}
 use Rattle.tower.specs.declared.options.Key.TheVariants as key
 
--- the request of `compile`: the widths, and whether the inverse file is printed
+-- the request of `compile`: the widths, the entry and the number of its bound, and whether the inverse file is printed
 pub record FileRequest : Type 0 where
   pub widths : Widths
+  pub entry : List ℕ
+  pub bound : Option ℕ
   pub inverse : Bool
 
 -- the request of a call
@@ -20,11 +23,50 @@ pub data Request : Type 0 where
   Simulate : Request
   Invert : Request
 
+-- what the options of a call set; a value is missing if its option is not given
+pub record Settings : Type 0 where
+  pub widths : Option Widths
+  pub entry : Option (List ℕ)
+  pub bound : Option ℕ
+  pub inverse : Bool
+
+-- no option is given
+abbrev pub is_empty : Settings → Bool
+is_empty settings = not (is_some settings.widths) && not (is_some settings.entry) && not (is_some settings.bound) && not settings.inverse
+
+-- a request without options
+abbrev pub request_alone : Request → Settings → Option Request
+request_alone request settings = if is_empty settings then Some request else None
+
+-- the request of `check`: the widths are needed, and no other option is allowed
+abbrev pub check_request : Settings → Option Request
+check_request settings = if is_empty (record settings { widths = None }) then option_map Check settings.widths else None
+
+-- the request of `compile`: the widths and the entry are needed
+abbrev pub compile_request : Settings → Option Request
+compile_request settings = option_and_then (λ widths. option_map (λ entry. Compile (record {
+  widths = widths;
+  entry = entry;
+  bound = settings.bound;
+  inverse = settings.inverse;
+})) settings.entry) settings.widths
+
+-- the request that a command with these settings is
+abbrev pub request_from : List ℕ → Settings → Option Request
+request_from command settings =
+    if bytes_eq command (codes "check") then check_request settings
+    else if bytes_eq command (codes "compile") then compile_request settings
+    else if bytes_eq command (codes "format") then request_alone Format settings
+    else if bytes_eq command (codes "sim") then request_alone Simulate settings
+    else if bytes_eq command (codes "invert") then request_alone Invert settings
+    else None
+
 -- the text of a key
 abbrev pub key_text : Key → List ℕ
 key_text key.Word = codes "--word"
 key_text key.Addr = codes "--addr"
 key_text key.Entry = codes "--entry"
+key_text key.Bound = codes "--bound"
 key_text key.Inverse = codes "--inverse"
 
 -- whether the key is a whole option; otherwise the next argument is its value
@@ -37,7 +79,8 @@ abbrev pub key_place : Key → ℕ
 key_place key.Word = 0
 key_place key.Addr = 1
 key_place key.Entry = 2
-key_place key.Inverse = 3
+key_place key.Bound = 3
+key_place key.Inverse = 4
 
 -- an option: its key, and its value, which a flag does not have
 abbrev pub Choice : Type 0
@@ -53,61 +96,77 @@ values_of key [] = []
 values_of key (choice ∷ choices) =
     if key_place choice.0 == key_place key then (if is_flag key then [] else choice.1) ∷ values_of key choices else values_of key choices
 
--- The values that are given to each key in this request. Numbers are decimal without leading zeros. The entry is `main`.
--- `--inverse` is given if the inverse file is printed.
-abbrev pub wanted : Key → FileRequest → List (List ℕ)
-wanted key.Word file = decimal file.widths.word ∷ []
-wanted key.Addr file = decimal file.widths.addr ∷ []
-wanted key.Entry file = codes "main" ∷ []
-wanted key.Inverse file = if file.inverse then [] ∷ [] else []
+-- the value that sets a number: decimal without leading zeros
+abbrev pub number_value : Option ℕ → List (List ℕ)
+number_value number = option_to_list (option_map decimal number)
 
--- the values that are given to each key in a check: the widths alone
-abbrev pub wanted_widths : Key → Widths → List (List ℕ)
-wanted_widths key.Word widths = decimal widths.word ∷ []
-wanted_widths key.Addr widths = decimal widths.addr ∷ []
-wanted_widths other widths = []
+-- the values that are given to each key if these are the settings: at most one
+abbrev pub wanted : Settings → Key → List (List ℕ)
+wanted settings key.Word = number_value (option_map (λ widths. widths.word) settings.widths)
+wanted settings key.Addr = number_value (option_map (λ widths. widths.addr) settings.widths)
+wanted settings key.Entry = option_to_list settings.entry
+wanted settings key.Bound = number_value settings.bound
+wanted settings key.Inverse = if settings.inverse then [] ∷ [] else []
 
--- the arguments are this command, then options in any order with these values, and the widths are in range
-pub record AsksWith (command : List ℕ) (values_wanted : Key → List (List ℕ)) (widths : Widths) (words : List (List ℕ)) : Type 0 where
+-- the greatest bound of an entry
+abbrev pub greatest_bound : ℕ
+greatest_bound = 255
+
+-- the arguments are options in any order that make these settings, and their numbers are in range
+pub record AreOptions (words : List (List ℕ)) (settings : Settings) : Type 0 where
   pub choices : List Choice
-  pub spelled : words ≡ command ∷ flat_map choice_words choices
-  pub values : (key : Key) → values_of key choices ≡ values_wanted key
-  pub in_range : AreInRange widths
+  pub spelled : words ≡ flat_map choice_words choices
+  pub values : (key : Key) → values_of key choices ≡ wanted settings key
+  pub widths_in_range : IfSome settings.widths AreInRange
+  pub bound_in_range : IfSome settings.bound (λ bound. bound ≤ greatest_bound)
 
-abbrev pub AsksCheck : List (List ℕ) → Widths → Type 0
-AsksCheck words widths = AsksWith (codes "check") (λ key. wanted_widths key widths) widths words
-
-abbrev pub AsksFile : List (List ℕ) → FileRequest → Type 0
-AsksFile words file = AsksWith (codes "compile") (λ key. wanted key file) file.widths words
-
--- the arguments are this request; `format`, `sim` and `invert` have no options
-abbrev pub Asks : List (List ℕ) → Request → Type 0
-Asks words Format = words ≡ codes "format" ∷ []
-Asks words (Check widths) = AsksCheck words widths
-Asks words (Compile file) = AsksFile words file
-Asks words Simulate = words ≡ codes "sim" ∷ []
-Asks words Invert = words ≡ codes "invert" ∷ []
+-- the arguments are this request: a command, and options that make its settings
+pub record Asks (words : List (List ℕ)) (request : Request) : Type 0 where
+  pub command : List ℕ
+  pub options : List (List ℕ)
+  pub spelled : words ≡ command ∷ options
+  pub settings : Settings
+  pub are_options : AreOptions options settings
+  pub request_is : request_from command settings ≡ Some request
 
 -- the arguments are no request
 abbrev pub IsUsage : List (List ℕ) → Type 0
 IsUsage words = (request : Request) → ¬ Asks words request
 
--- `compile --inverse --entry main --addr 2 --word 3`
+-- `compile --inverse --entry push --addr 2 --bound 255 --word 3`
+abbrev push_inverse : FileRequest
+push_inverse = record { widths = record { word = 3; addr = 2 }; entry = codes "push"; bound = Some 255; inverse = true }
+
+abbrev push_options : List Choice
+push_options = (key.Inverse, []) ∷ (key.Entry, codes "push") ∷ (key.Addr, codes "2") ∷ (key.Bound, codes "255") ∷ (key.Word, codes "3") ∷ []
+
 pub asks_inverse :
-    AsksFile (codes "compile" ∷ codes "--inverse" ∷ codes "--entry" ∷ codes "main" ∷ codes "--addr" ∷ codes "2" ∷ codes "--word" ∷ codes "3" ∷ [])
-    (record { widths = record { word = 3; addr = 2 }; inverse = true })
+    Asks (codes "compile" ∷ codes "--inverse" ∷ codes "--entry" ∷ codes "push" ∷ codes "--addr" ∷ codes "2" ∷ codes "--bound" ∷ codes "255" ∷ codes "--word" ∷ codes "3" ∷ [])
+    (Compile push_inverse)
 unfolding digits
 asks_inverse = record {
-  choices = (key.Inverse, []) ∷ (key.Entry, codes "main") ∷ (key.Addr, codes "2") ∷ (key.Word, codes "3") ∷ [];
+  command = codes "compile";
+  options = flat_map choice_words push_options;
   spelled = refl;
-  values = each;
-  in_range = record { word_from = lit≤ tt; word_to = lit≤ tt; addr_from = lit≤ tt; addr_to = lit≤ tt };
+  settings = push_settings;
+  are_options = record {
+    choices = push_options;
+    spelled = refl;
+    values = each;
+    widths_in_range = record { word_from = lit≤ tt; word_to = lit≤ tt; addr_from = lit≤ tt; addr_to = lit≤ tt };
+    bound_in_range = lit≤ tt;
+  };
+  request_is = refl;
 }
   where
-    each : (k : Key) → values_of k ((key.Inverse, []) ∷ (key.Entry, codes "main") ∷ (key.Addr, codes "2") ∷ (key.Word, codes "3") ∷ []) ≡ wanted k (record { widths = record { word = 3; addr = 2 }; inverse = true })
+    push_settings : Settings
+    push_settings = record { widths = Some push_inverse.widths; entry = Some push_inverse.entry; bound = push_inverse.bound; inverse = push_inverse.inverse }
+
+    each : (k : Key) → values_of k push_options ≡ wanted push_settings k
     each key.Word = refl
     each key.Addr = refl
     each key.Entry = refl
+    each key.Bound = refl
     each key.Inverse = refl
 
 -- a key that is given twice has both values, in order

@@ -30,16 +30,16 @@ use tw_text::{Counted, Diagnostic, INPUT_LIMIT, Pos, Refusal};
 /// Runs a command on an input within the limit.
 fn answer<K: Sink>(
     alloc: Global,
-    command: Command,
+    command: &Command<'_>,
     bytes: &[u8],
     output: &mut K,
 ) -> Result<(), Unanswered>
     requires { length bytes.now ≤ INPUT_LIMIT }
-    ensures { Did K.taken K.faults output.old output.new result (InputAnswer (request_of command) bytes.now) }
+    ensures { Did K.taken K.faults output.old output.new result (InputAnswer (request_of command.now) bytes.now) }
 {
     match command {
         Command::Format => format(alloc, bytes, output),
-        Command::Check(widths) => check(alloc, widths, bytes, output),
+        Command::Check(widths) => check(alloc, *widths, bytes, output),
         Command::Compile(options) => compile(alloc, options, bytes, output),
         Command::Simulate => simulate(alloc, bytes, output),
         Command::Invert => invert(alloc, bytes, output),
@@ -61,7 +61,7 @@ fn run<S: Source, K: Sink>(alloc: Global, words: &Words, input: &mut S, output: 
     };
     match read_all(alloc, input, INPUT_LIMIT) {
         Ok(bytes) => {
-            let did = answer(alloc, command, &bytes, output);
+            let did = answer(alloc, &command, &bytes, output);
             finish(output, did)
         }
         Err(ReadError::TooLong) => {
@@ -83,9 +83,13 @@ fn run<S: Source, K: Sink>(alloc: Global, words: &Words, input: &mut S, output: 
 /// `sim` reads a gate file of X gates. Lines of bits follow the file after a line `%%`. A line has one bit for each wire, wire 0
 /// first. `sim` writes the image of each line under the gates.
 ///
-/// `compile --word W --addr A --entry main` reads a program and writes its gate file, or with `--inverse` the inverse file. The
-/// options may come in any order. `W`, from 1 to 32, is the width of a word; no program that is compiled uses it yet. `A`, from
-/// 1 to 8, is the width of an address. Programs of one form are compiled so far. All others are refused as not built.
+/// `check --word W --addr A` reads a program and writes `ok` if it is well-typed and reversible. `W`, from 1 to 32, is the width
+/// of a word; `A`, from 1 to 8, is the width of an address.
+///
+/// `compile --word W --addr A --entry F` reads a program and writes the gate file of its function `F`, or with `--inverse` the
+/// inverse file. `--bound N`, from 0 to 255, gives the number of the bound that `F` declares. The options may come in any order.
+/// A program that `check` refuses is refused alike, and then an entry that the program does not have. Programs of one form are
+/// compiled so far. All others are refused as not built.
 ///
 /// An input that the command does not read is refused with a line that gives the reason, and the place if the refusal has one.
 /// `docs/FORMATS.md` has all texts and refusals.

@@ -5,13 +5,11 @@ ghost use Rattle.tower.specs.Check.{CheckAnswer};
 ghost use Rattle.tower.specs.Sources.{SourceAnswer};
 ghost use Rattle.tower.specs.Ending.{Did};
 
+use crate::accept::accept;
 use crate::ending::Unanswered;
 use bumpalo::Bump;
 use std::alloc::Global;
-use tw_check::check_decls;
 use tw_io::{Sink, write_all};
-use tw_parse::parse;
-use tw_resolve::resolve;
 use tw_text::Arena;
 use tw_types::Widths;
 
@@ -26,9 +24,7 @@ pub fn check<K: Sink>(
     ensures { Did K.taken K.faults output.old output.new result (SourceAnswer bytes.now (CheckAnswer widths)) }
 {
     let arena: Arena = Bump::new(alloc);
-    let program = parse(alloc, &arena, bytes)?;
-    resolve(alloc, &arena, program, widths)?;
-    check_decls(alloc, program.decls)?;
+    accept(alloc, &arena, widths, bytes)?;
     write_all(output, b"ok\n")?;
     Ok(())
 }

@@ -219,6 +219,7 @@ fn refuses_other_words_of_check(rt: HostRuntime) -> Result<(), AllocError> {
         "check --word 3",
         "check --word 0 --addr 2",
         "check --word 3 --addr 2 --entry main",
+        "check --word 3 --addr 2 --bound 1",
         "check --word 3 --addr 2 --inverse",
     ];
     for line in table {

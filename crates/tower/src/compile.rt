@@ -12,17 +12,18 @@ ghost use Rattle.tower.specs.Compile.{file_of, CompileAnswer};
 ghost use Rattle.tower.specs.Sources.{SourceAnswer};
 ghost use Rattle.tower.specs.Ending.{Did};
 
+use crate::accept::accept;
 use crate::ending::Unanswered;
 use crate::first_form::{Form, form_of};
 use crate::request::Options;
 use bumpalo::Bump;
 use std::alloc::{AllocError, Global};
+use tw_check::find_entry;
 use tw_frames::layout;
 use tw_gate::{GateList, Level, TOFFOLI_T_COUNT};
 use tw_gatetext::{GateFile, write_gate_file};
 use tw_io::Sink;
 use tw_lower::push_and;
-use tw_parse::parse;
 use tw_text::{Arena, Diagnostic};
 use tw_types::Widths;
 
@@ -65,16 +66,17 @@ fn file_of(
 /// line after them.
 pub fn compile<K: Sink>(
     alloc: Global,
-    options: Options,
+    options: &Options<'_>,
     bytes: &[u8],
     output: &mut K,
 ) -> Result<(), Unanswered>
     requires { length bytes.now ≤ INPUT_LIMIT }
-    ensures { Did K.taken K.faults output.old output.new result (SourceAnswer bytes.now (CompileAnswer (file_request options))) }
+    ensures { Did K.taken K.faults output.old output.new result (SourceAnswer bytes.now (CompileAnswer (file_request options.now))) }
 {
     let arena: Arena = Bump::new(alloc);
-    let program = parse(alloc, &arena, bytes)?;
-    let Some(form) = form_of(program) else {
+    let checked = accept(alloc, &arena, options.widths, bytes)?;
+    find_entry(&checked, options.entry, options.bound)?;
+    let Some(form) = form_of(checked.resolved.program) else {
         return Err(Unanswered::Refused(Diagnostic::NotBuilt));
     };
     let file = file_of(alloc, options.widths, options.inverse, &form)?;

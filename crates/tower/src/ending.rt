@@ -1,5 +1,6 @@
 //! The end of a call: the status, and the line of a refusal.
 ghost use Rattle.std.specs.Prelude.{◌≡◌};
+ghost use Rattle.tw_text.specs.declared.diagnostic.Diagnostic.TheVariants as diagnostic;
 ghost use Rattle.tower.specs.declared.ending.Unanswered.TheVariants as unanswered;
 ghost use Rattle.tower.specs.Outcomes.{rule_status, refusal_status};
 ghost use Rattle.tower.specs.Ending.{of_source, of_gates, of_lines, Refused, Finished};
@@ -9,7 +10,7 @@ use std::alloc::AllocError;
 use tw_gatetext::GateFault;
 use tw_io::{Sink, WriteFault, write_all};
 use tw_sim::LinesFault;
-use tw_text::{Diagnostic, Fault, Rule};
+use tw_text::{Diagnostic, Fault, Refusal, Rule};
 
 /// Why a command wrote no whole text.
 #[derive(Debug, Clone, Copy, PartialEq, Eq)]
@@ -30,6 +31,14 @@ impl From<Fault> for Unanswered {
             Fault::Refused(refusal) => Unanswered::Refused(Diagnostic::Refused(refusal)),
             Fault::Memory => Unanswered::Memory,
         }
+    }
+}
+
+impl From<Refusal> for Unanswered {
+    ghost from_gives = { λ refusal e. e ≡ unanswered.Refused (diagnostic.Refused refusal) };
+
+    fn from(refusal: Refusal) -> Unanswered {
+        Unanswered::Refused(Diagnostic::Refused(refusal))
     }
 }
 

@@ -3,6 +3,7 @@
 //! answer of a call to arguments and an input.
 #![tactic(auto)]
 
+mod accept;
 mod call;
 mod check;
 #[cfg(test)]
@@ -14,6 +15,7 @@ mod format;
 mod invert;
 mod options;
 mod request;
+mod settings;
 mod simulate;
 mod status;
 #[cfg(test)]

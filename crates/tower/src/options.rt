@@ -15,12 +15,14 @@ pub enum Key {
     Addr,
     /// The function that is compiled.
     Entry,
+    /// The number of its bound.
+    Bound,
     /// The inverse file is printed.
     Inverse,
 }
 
 /// The number of keys.
-const KEY_COUNT: usize = 4;
+const KEY_COUNT: usize = 5;
 
 impl Key {
     /// The key with this text.
@@ -31,6 +33,7 @@ impl Key {
             "--word" => Some(Key::Word),
             "--addr" => Some(Key::Addr),
             "--entry" => Some(Key::Entry),
+            "--bound" => Some(Key::Bound),
             "--inverse" => Some(Key::Inverse),
             _ => None,
         }

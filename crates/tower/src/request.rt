@@ -1,143 +1,94 @@
 //! The request that the arguments of a call are.
-ghost use Rattle.std.specs.Prelude.{◌≡◌, ◌<◌, ◌^◌, ℕ, decimal, codes, slice_get, length, IfSome};
+ghost use Rattle.std.specs.Prelude.{◌≡◌, IfSome, option_map};
 ghost use Rattle.std.specs.Option.{IfNone};
-ghost use Rattle.std.specs.Str.{bytes_eq};
-ghost use Rattle.tw_types.specs.Types as types;
-ghost use Rattle.tower.specs.Requests.{FileRequest, Asks, AsksCheck, AsksFile, IsUsage};
-ghost use Rattle.tower.specs.Given.{file_request, request_of, AreWanted, AreWidths, HasWidths};
+ghost use Rattle.tower.specs.Requests.{Asks, IsUsage, check_request, compile_request, request_alone, request_from};
+ghost use Rattle.tower.specs.Given.{request_of, settings_seen};
 
-use crate::options::{Given, Key, options_of};
+use crate::settings::{Settings, settings_of};
 use crate::words::Words;
 use tw_types::Widths;
 
 /// The options of `compile`.
 #[derive(Debug, Clone, Copy, PartialEq, Eq)]
-pub struct Options {
+pub struct Options<'w> {
     /// The widths that the program is compiled for.
     pub widths: Widths,
+    /// The name of the function that is compiled.
+    pub entry: &'w str,
+    /// The number that its bound has.
+    pub bound: Option<u8>,
     /// Whether the inverse file is printed.
     pub inverse: bool,
 }
 
 /// A command, with its options.
 #[derive(Debug, Clone, Copy, PartialEq, Eq)]
-pub enum Command {
+pub enum Command<'w> {
     /// The printed form of a program.
     Format,
     /// Whether a program is well-typed and reversible, at these widths.
     Check(Widths),
     /// The gate file of a program, or the inverse file.
-    Compile(Options),
+    Compile(Options<'w>),
     /// The images of lines of bits under the gates of a file.
     Simulate,
     /// The inverse of a gate file.
     Invert,
 }
 
-/// The width that an argument is.
-fn width(word: &str) -> Option<u32>
-    ensures some { IfSome result (λ n. word.now ≡ decimal n) }
-    ensures none { IfNone result ((n : ℕ) → n < 2 ^ 32 → ¬ (word.now ≡ decimal n)) }
+/// `check` with these settings. The widths are needed, and no other option is allowed.
+fn check_of<'w>(settings: &Settings<'w>) -> Option<Command<'w>>
+    ensures { option_map request_of result ≡ check_request (settings_seen settings.now) }
 {
-    let number = tw_text::whole_decimal(word.as_bytes())?;
-    if number < 1 << 32 {
-        Some(number as u32)
-    } else {
-        None
-    }
-}
-
-fn is_main(word: &str) -> bool
-    ensures { result ≡ bytes_eq word.now (codes "main") }
-{
-    word == "main"
-}
-
-/// The widths that are given.
-fn widths_of(given: &Given) -> Option<Widths>
-    ensures some { IfSome result (HasWidths given.now.values) }
-    ensures none { IfNone result ((widths : types.Widths) → ¬ HasWidths given.now.values widths) }
-{
-    let word = width(given.value(Key::Word)?)?;
-    let addr = width(given.value(Key::Addr)?)?;
-    Widths::new(word, addr)
-}
-
-/// The request that the options of `compile` are.
-fn file_options(given: &Given) -> Option<Options>
-    ensures some { IfSome result (λ options. AreWanted given.now.values (file_request options)) }
-    ensures none { IfNone result ((request : FileRequest) → ¬ AreWanted given.now.values request) }
-{
-    let widths = widths_of(given)?;
-    if !is_main(given.value(Key::Entry)?) {
+    let others = Settings {
+        widths: None,
+        ..*settings
+    };
+    if !others.is_empty() {
         return None;
     }
-    Some(Options {
-        widths,
-        inverse: given.value(Key::Inverse).is_some(),
-    })
-}
-
-/// The request that the arguments after `compile` are.
-fn compile_of(words: &Words) -> Option<Command>
-    requires { slice_get words.now 0 ≡ Some (codes "compile") }
-    ensures some { IfSome result (λ command. Asks words.now (request_of command)) }
-    ensures none { IfNone result ((request : FileRequest) → ¬ AsksFile words.now request) }
-{
-    let given = options_of(words)?;
-    let options = file_options(&given)?;
-    Some(Command::Compile(options))
-}
-
-/// The widths that the options of `check` are.
-fn check_options(given: &Given) -> Option<Widths>
-    ensures some { IfSome result (AreWidths given.now.values) }
-    ensures none { IfNone result ((widths : types.Widths) → ¬ AreWidths given.now.values widths) }
-{
-    let widths = widths_of(given)?;
-    if given.value(Key::Entry).is_some() {
-        return None;
-    }
-    if given.value(Key::Inverse).is_some() {
-        return None;
-    }
-    Some(widths)
-}
-
-/// The request that the arguments after `check` are.
-fn check_of(words: &Words) -> Option<Command>
-    requires { slice_get words.now 0 ≡ Some (codes "check") }
-    ensures some { IfSome result (λ command. Asks words.now (request_of command)) }
-    ensures none { IfNone result ((widths : types.Widths) → ¬ AsksCheck words.now widths) }
-{
-    let given = options_of(words)?;
-    let widths = check_options(&given)?;
+    let widths = settings.widths?;
     Some(Command::Check(widths))
 }
 
-/// A command without options. `None` if an argument follows it.
-fn alone(command: Command, words: &Words) -> Option<Command>
-    requires { 0 < length words.now }
-    ensures some { IfSome result (λ found. (found ≡ command) × (length words.now ≡ 1)) }
-    ensures none { IfNone result (1 < length words.now) }
+/// `compile` with these settings. The widths and the entry are needed.
+fn compile_of<'w>(settings: &Settings<'w>) -> Option<Command<'w>>
+    ensures { option_map request_of result ≡ compile_request (settings_seen settings.now) }
 {
-    if words.len() < 2 { Some(command) } else { None }
+    let widths = settings.widths?;
+    let entry = settings.entry?;
+    Some(Command::Compile(Options {
+        widths,
+        entry,
+        bound: settings.bound,
+        inverse: settings.inverse,
+    }))
+}
+
+/// The command of this name with these settings. `None` if there is none, or if an option is missing or not allowed.
+fn request_from<'w>(command: &str, settings: &Settings<'w>) -> Option<Command<'w>>
+    ensures { option_map request_of result ≡ request_from command.now (settings_seen settings.now) }
+{
+    match command {
+        "check" => check_of(settings),
+        "compile" => compile_of(settings),
+        "format" if settings.is_empty() => Some(Command::Format),
+        "sim" if settings.is_empty() => Some(Command::Simulate),
+        "invert" if settings.is_empty() => Some(Command::Invert),
+        _ => None,
+    }
 }
 
 /// The command that the arguments are, with its options. `None` if they are none.
-pub fn command_of(words: &Words) -> Option<Command>
+pub fn command_of(words: &Words) -> Option<Command<'_>>
     ensures some { IfSome result (λ command. Asks words.now (request_of command)) }
     ensures none { IfNone result (IsUsage words.now) }
 {
     if words.is_empty() {
         return None;
     }
-    match words.word(0) {
-        "check" => check_of(words),
-        "compile" => compile_of(words),
-        "format" => alone(Command::Format, words),
-        "sim" => alone(Command::Simulate, words),
-        "invert" => alone(Command::Invert, words),
-        _ => None,
-    }
+    let Some(settings) = settings_of(words) else {
+        return None;
+    };
+    request_from(words.word(0), &settings)
 }

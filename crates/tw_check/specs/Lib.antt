@@ -5,3 +5,4 @@ pub mod Right
 pub mod Rules
 pub mod Examples
 pub mod Walks
+pub mod EntryPoints

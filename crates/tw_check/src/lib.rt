@@ -3,6 +3,7 @@
 #![tactic(auto)]
 
 mod checked;
+mod entry;
 mod function;
 mod mention;
 mod name_set;
@@ -13,5 +14,6 @@ mod tests;
 mod variable;
 mod walk;
 
-pub use checked::check_decls;
+pub use checked::{Checked, check};
+pub use entry::{Entry, find_entry};
 pub use function::check_function;

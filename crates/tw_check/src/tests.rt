@@ -1,13 +1,15 @@
 //! A function for each rule, and one with deeply nested setups.
-use crate::check_function;
+use crate::{Entry, check, check_function, find_entry};
 use bumpalo::Bump;
 use std::alloc::{AllocError, Global};
 use std::test::Fail;
+use tw_resolve::resolve;
 use tw_syntax::{
-    Atom, AtomKind, Expr, ExprKind, Fun, Name, Param, Path, Rhs, Stmt, StmtKind, WrittenKind,
-    build_written, choice, otherwise, with_block,
+    Atom, AtomKind, Decl, Expr, ExprKind, Fun, Name, Param, Path, Program, Rhs, Stmt, StmtKind,
+    WrittenKind, build_program, build_written, choice, otherwise, with_block,
 };
 use tw_text::{Arena, Fault, Pos, Refusal, Rule};
+use tw_types::Widths;
 
 fn place(line: u32, col: u32) -> Pos {
     Pos { line, col }
@@ -326,5 +328,64 @@ fn walks_each_setup_once(rt: HostRuntime) -> Result<(), Fail> {
     let arena = Bump::new(rt.alloc());
     let body = under_setups(&arena)?;
     assert!(rt; is_right(&arena, rt.alloc(), body)?);
+    Ok(())
+}
+
+/// `fun f(..) -> bool { let y <- x; return y; }`, and the same as `fun g[n](..)`.
+fn plain_and_bounded<'a>(arena: &'a Arena) -> Result<&'a Program<'a>, AllocError> {
+    let plain = function(arena, one(arena, assign(1, true, "y", "x"))?)?;
+    let bounded = Fun {
+        name: name("g", 2, 5),
+        bound: Some(name("n", 2, 7)),
+        ..plain
+    };
+    let decls = arena.try_alloc_slice_copy(&[Decl::Fun(plain), Decl::Fun(bounded)])?;
+    build_program(arena, decls)
+}
+
+/// The entry of this name and bound in the program of `plain_and_bounded`, or what is found to be wrong with it.
+fn entry(rt: &HostRuntime, name: &str, bound: Option<u8>) -> Result<Result<Entry, u64>, Fault> {
+    let arena = Bump::new(rt.alloc());
+    let widths = Widths::new(1, 1).ok_or(Fault::Memory)?;
+    let resolved = resolve(rt.alloc(), &arena, plain_and_bounded(&arena)?, widths)?;
+    let checked = check(rt.alloc(), resolved)?;
+    Ok(find_entry(&checked, name, bound).map_err(|refusal| refusal.found))
+}
+
+#[test]
+fn finds_entries(rt: HostRuntime) -> Result<(), Fail> {
+    let table = [
+        (
+            "f",
+            None,
+            Ok(Entry {
+                fun: 0,
+                bound: None,
+            }),
+        ),
+        (
+            "g",
+            Some(0),
+            Ok(Entry {
+                fun: 1,
+                bound: Some(0),
+            }),
+        ),
+        (
+            "g",
+            Some(255),
+            Ok(Entry {
+                fun: 1,
+                bound: Some(255),
+            }),
+        ),
+        ("h", None, Err(0)),
+        ("h", Some(3), Err(0)),
+        ("g", None, Err(1)),
+        ("f", Some(3), Err(2)),
+    ];
+    for (name, bound, wanted) in table {
+        assert!(rt; entry(&rt, name, bound) == Ok(wanted), "{name}");
+    }
     Ok(())
 }
