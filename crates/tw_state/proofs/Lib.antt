@@ -5,3 +5,10 @@ pub mod Renamed
 pub mod Sizes
 pub mod Stores
 pub mod Worked
+pub mod Basics
+pub mod Parts
+pub mod Blocks
+pub mod SingleSteps
+pub mod Calls
+pub mod Determined
+pub mod Undone

@@ -1,24 +1,18 @@
 -- Worked examples of the semantics, as derivations. Each program stands on one line, as in its comment.
-use Rattle.std.specs.Prelude.{◌≡◌, ℕ, zero, suc, Bool, true, false, if◌then◌else◌, List, [], ◌∷◌, Option, Some, None, codes, refl}
-use Rattle.std.proofs.Common.{ap}
-use Rattle.std.proofs.Math.Path.{fun_ext}
-use Rattle.std.specs.Str.{bytes_eq}
-use Rattle.std.proofs.lemmas.Bool.{true≢false}
+use Rattle.std.specs.Prelude.{◌≡◌, ℕ, Bool, true, false, List, [], ◌∷◌, Some, None, codes, refl}
 use Rattle.tw_syntax.specs.declared.term.OpKind.TheVariants as op
 use Rattle.tw_syntax.specs.Examples.{place}
 use Rattle.tw_syntax.specs.Names.{NameTree, PathTree}
-use Rattle.tw_syntax.specs.Programs.{ParamTree, FunTree}
-use Rattle.tw_syntax.specs.Statements.{StmtTree, Nothing, Then, Else, LetStmt, SwapStmt, MemSwapStmt, IfStmt, WithStmt}
-use Rattle.tw_syntax.specs.Terms.{AtomTree, PlaceAtom, NumberAtom, TrueAtom, FalseAtom, BoundTree, FixedBound, LessBound, RhsTree, ExprRhs, CallRhs, AllocRhs, OneExpr, NotExpr, OpExpr}
-use Rattle.tw_syntax.specs.Types.{WrittenTree, UintType, BoolType}
-use Rattle.tw_types.specs.Types.{Widths, Ty, Word, Boolean, Pointer}
-use Rattle.tw_types.specs.Values.{Value, Number, Truth, Address, PairValue}
-use Rattle.tw_resolve.specs.Expressions.{Variables}
+use Rattle.tw_syntax.specs.Programs.{FunTree}
+use Rattle.tw_syntax.specs.Statements.{StmtTree, Nothing, Then, LetStmt, MemSwapStmt, IfStmt}
+use Rattle.tw_syntax.specs.Terms.{AtomTree, PlaceAtom, NumberAtom, TrueAtom, FalseAtom, RhsTree, ExprRhs, AllocRhs, OneExpr, OpExpr}
+use Rattle.tw_syntax.specs.Types.{BoolType}
+use Rattle.tw_types.specs.Types.{Boolean, Pointer}
+use Rattle.tw_types.specs.Values.{Value, Number, Truth, Address}
 use Rattle.tw_resolve.specs.Setting.{Setting}
-use Rattle.tw_state.specs.States.{Name, Cell, Free, Live, Store, State, empty, with_value}
-use Rattle.tw_state.specs.Steps.{Activation, activation_of, bound_number, callee_bound, Adds, links, seen_by}
-use Rattle.tw_state.specs.Semantics
-use Rattle.tw_state.specs.Semantics.{Runs, RunsNothing, RunsThen, RunsLet, RunsUnlet, RunsSwap, RunsMemSwapNull, RunsMemSwap, RunsIf, RunsIfNot, RunsWith, RunsCall, RunsCallZero, RunsAlloc, RunsAllocNone, RunsFree}
+use Rattle.tw_state.specs.States.{Name, Free, Live, Store, State, empty, with_value}
+use Rattle.tw_state.specs.Steps.{Activation, Adds}
+use Rattle.tw_state.specs.Semantics.{Runs, RunsNothing, RunsThen, RunsLet, RunsUnlet, RunsMemSwapNull, RunsIf, RunsAlloc, RunsAllocNone}
 use Rattle.tw_state.specs.Stuck.{Unmet, Wild, Dirty, Pad, Sticks, StuckFirst, StuckRest, StuckUnlet, StuckMemSwap, StuckPad, StuckFreeDirty}
 
 -- a name, a path without steps, and a path with one step, each at a column

@@ -16,7 +16,7 @@ use Rattle.tw_resolve.specs.Setting.{Setting}
 use Rattle.tw_check.specs.Liveness.{live_after}
 use Rattle.tw_check.specs.Names.{Names}
 use Rattle.tw_check.specs.Right.{overlap}
-use Rattle.tw_state.specs.States.{Name, Cell, Free, Live, Store, State, with_value, cell_at, with_cell}
+use Rattle.tw_state.specs.States.{Name, Free, Live, Store, State, with_value, cell_at, with_cell}
 use Rattle.tw_state.specs.Parts.{value_at, with_value_at}
 use Rattle.tw_state.specs.Evaluation.{zero_of}
 

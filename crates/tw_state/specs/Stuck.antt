@@ -1,9 +1,9 @@
 -- Statements without a result: the first one in running order to which no rule of the semantics applies, and the reason.
-use Rattle.std.specs.Prelude.{◌≡◌, ◌≢◌, ℕ, true, false, Option, Some, None}
+use Rattle.std.specs.Prelude.{◌≡◌, ◌≢◌, ℕ, true, false, Some, None}
 use Rattle.tw_text.specs.declared.place.Pos.{Pos}
 use Rattle.tw_syntax.specs.Names.{NameTree}
 use Rattle.tw_syntax.specs.Programs.{FunTree}
-use Rattle.tw_syntax.specs.Statements.{StmtTree, Nothing, Then, Else, LetStmt, SwapStmt, MemSwapStmt, IfStmt, WithStmt, BlockStmt, SkipStmt}
+use Rattle.tw_syntax.specs.Statements.{StmtTree, Nothing, Then, Else, LetStmt, MemSwapStmt, IfStmt, WithStmt, BlockStmt}
 use Rattle.tw_syntax.specs.Terms.{ExprRhs, CallRhs, AllocRhs}
 use Rattle.tw_types.specs.Types.{Pointer, Ty}
 use Rattle.tw_types.specs.Values.{Value, Truth, Address, zero_value}
@@ -12,7 +12,7 @@ use Rattle.tw_resolve.specs.Expressions.{fun_named, path_type, Variables}
 use Rattle.tw_resolve.specs.Setting.{Setting}
 use Rattle.tw_check.specs.Liveness.{live_after}
 use Rattle.tw_check.specs.Reverse.{reverse_of}
-use Rattle.tw_state.specs.States.{Name, Live, State, Store, cell_at}
+use Rattle.tw_state.specs.States.{Name, Live, State, cell_at}
 use Rattle.tw_state.specs.Parts.{value_at}
 use Rattle.tw_state.specs.Evaluation.{zero_of, expr_value}
 use Rattle.tw_state.specs.Steps.{Activation, activation_of, live_names, Adds, callee_bound, links, seen_by}
