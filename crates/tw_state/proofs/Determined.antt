@@ -15,7 +15,7 @@ use Rattle.tw_state.proofs.Calls.{HaveDifferentNames, links_different, call_end,
 use Rattle.std.proofs.lemmas.Option.{none-some}
 
 -- a truth value is not both
-true_and_false : {P : Type 0} {o : Option Value} → o ≡ Some (Truth true) → o ≡ Some (Truth false) → P
+pub true_and_false : {P : Type 0} {o : Option Value} → o ≡ Some (Truth true) → o ≡ Some (Truth false) → P
 true_and_false {P} {o} p q = contradiction {test = true} refl (ap is (same_some p q))
   where
     is : Value → Bool

@@ -12,3 +12,4 @@ pub mod SingleSteps
 pub mod Calls
 pub mod Determined
 pub mod Undone
+pub mod Sticking
