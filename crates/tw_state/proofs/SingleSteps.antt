@@ -14,6 +14,7 @@ use Rattle.tw_check.specs.Reverse.{reverse_of}
 use Rattle.tw_check.proofs.Reversal.{live_after-reverse_of}
 use Rattle.tw_state.specs.States.{Name, Cell, Free, Live, Store, State, with_value, cell_at, with_cell}
 use Rattle.tw_state.specs.Parts.{value_at, with_value_at}
+use Rattle.tw_state.specs.Evaluation.{zero_of_target}
 use Rattle.tw_state.specs.Steps.{Adds, Swaps, SwapsMemory, Takes, IsPadded, Pads, live_names}
 use Rattle.tw_state.proofs.Basics.{some_value, same_some, by_test, same_name, name_test, contradiction}
 use Rattle.tw_state.proofs.Blocks.{cell_put, cell_twice, cell_back, same_link}
@@ -148,7 +149,7 @@ takes_determined {setting} {to} {block} {other} {old} {new} {last} a b =
     let same : block ≡ other = sym a.first ∙ b.first in
     let next = same_link (some_value (sym a.is_free ∙ (ap (cell_at old.cells) same ∙ b.is_free))) in
     let target = same_some a.numbered b.numbered in
-    let cleared = same_some a.is_zero b.is_zero in (
+    let cleared = same_some a.is_zero (ap (zero_of_target setting) target ∙ b.is_zero) in (
       same,
       a.after
           ∙ ap₂ (λ n m. record old { head = m; cells = with_cell old.cells n (Live a.target a.cleared) }) same next

@@ -14,7 +14,7 @@ use Rattle.tw_resolve.specs.Setting.{Setting}
 use Rattle.tw_check.specs.Names.{Names}
 use Rattle.tw_check.specs.Reverse.{reverse_of}
 use Rattle.tw_state.specs.States.{Name, Free, Live, State, cell_at}
-use Rattle.tw_state.specs.Evaluation.{zero_of, expr_value}
+use Rattle.tw_state.specs.Evaluation.{zero_of, zero_of_target, expr_value}
 use Rattle.tw_state.specs.Steps.{Activation, activation_of, Adds, Takes, IsPadded, Pads, links, seen_by}
 use Rattle.tw_state.specs.Semantics.{Runs, RunsThen, RunsBlock, RunsUnlet, RunsMemSwapNull, RunsMemSwap, RunsIf, RunsIfElse, RunsIfNot, RunsWith, RunsCall, RunsUncall, RunsCallZero, RunsUncallZero, RunsFree, RunsFreeNone}
 use Rattle.tw_state.specs.Stuck.{Reason, IsNotLive, LacksPad, Sticks, StuckFirst, StuckRest, StuckBlock, StuckUnlet, StuckMemSwap, StuckIf, StuckIfElse, StuckPad, StuckSetup, StuckWork, StuckUndo, StuckCall, StuckUncall, StuckUncallZero, StuckFreeNull, StuckFreeWild, StuckFreeDirty}
@@ -57,11 +57,11 @@ module _ (setting : Setting) where
       ∙ freed_live t ∙ ap (λ n. Some (Live n t.cleared)) (same_some t.numbered numbered))
 
   dirty_meets : {name : Name} {to : WrittenTree} {old bare taken new : State} {block other number : ℕ} {value cleared : Value} → Adds name (Address block) bare old
-      → cell_at bare.cells block ≡ Some (Live number value) → zero_of setting to ≡ Some cleared → value ≢ cleared
+      → target_number setting.scope.targets to ≡ Some number → cell_at bare.cells block ≡ Some (Live number value) → zero_of_target setting number ≡ Some cleared → value ≢ cleared
       → Adds name (Address other) taken old → Takes setting to other new taken → ⊥
-  dirty_meets {name} {to} {old} {bare} {taken} {new} {block} {other} {number} {value} {cleared} a live zero dirty b t =
+  dirty_meets {name} {to} {old} {bare} {taken} {new} {block} {other} {number} {value} {cleared} a numbered live zero dirty b t =
       let blocks = same_address (adds_value a b) in
-      dirty (same_live (same_some live (ap₂ (λ (s : State) (n : ℕ). cell_at s.cells n) (adds_bare a b) blocks ∙ freed_live t)) ∙ same_some t.is_zero zero)
+      dirty (same_live (same_some live (ap₂ (λ (s : State) (n : ℕ). cell_at s.cells n) (adds_bare a b) blocks ∙ freed_live t)) ∙ same_some (ap (zero_of_target setting) (same_some numbered t.numbered) ∙ t.is_zero) zero)
 
   stuck_from : {act : Activation} {s : StmtTree} {x y : State} {reason : Reason} {place : Pos} → x ≡ y → Sticks setting act s x reason place → Sticks setting act s y reason place
   stuck_from {act} {s} {x} {y} {reason} {place} same stuck = subst (λ state. Sticks setting act s state reason place) same stuck
@@ -117,7 +117,7 @@ module _ (setting : Setting) (different : HaveDifferentNames setting) where
   never_both (StuckFreeNull a used) (RunsFreeNone none b) = used (ap (λ (s : State). s.head) (adds_bare a b) ∙ none)
   never_both (StuckFreeWild block number a some numbered wild) (RunsFree other b t) = wild_meets setting a numbered wild b t
   never_both (StuckFreeWild block number a some numbered wild) (RunsFreeNone none b) = some (same_address (adds_value a b))
-  never_both (StuckFreeDirty block number value cleared a numbered live zero dirty) (RunsFree other b t) = dirty_meets setting a live zero dirty b t
+  never_both (StuckFreeDirty block number value cleared a numbered live zero dirty) (RunsFree other b t) = dirty_meets setting a numbered live zero dirty b t
   never_both (StuckFreeDirty {bare = bare} block number value cleared a numbered live zero dirty) (RunsFreeNone none b) =
       none-some (Live number value) (ap (cell_at bare.cells) (sym (same_address (adds_value a b))) ∙ live)
 

@@ -1,14 +1,14 @@
 -- The values of atoms and expressions in a store.
-use Rattle.std.specs.Prelude.{◌≡◌, ◌&&◌, ◌||◌, not, Bool, true, false, Option, Some, None, option_map, option_and_then, refl}
+use Rattle.std.specs.Prelude.{◌≡◌, ℕ, ◌&&◌, ◌||◌, not, Bool, true, false, Option, Some, None, option_map, option_and_then, refl}
 use Rattle.std.proofs.Math.Bool.{beq}
 use Rattle.tw_syntax.specs.declared.term.OpKind.{OpKind}
 use Rattle.tw_syntax.specs.declared.term.OpKind.TheVariants as op
 use Rattle.tw_syntax.specs.Terms.{AtomTree, PlaceAtom, NumberAtom, TrueAtom, FalseAtom, UnitAtom, NullAtom, ZeroAtom, ExprTree, OneExpr, TwoExpr, NotExpr, OpExpr}
 use Rattle.tw_syntax.specs.Types.{WrittenTree}
 use Rattle.tw_bits.specs.Operators.{sum_mod, difference_mod, product_mod, is_less, is_equal}
-use Rattle.tw_types.specs.Types.{Widths}
+use Rattle.tw_types.specs.Types.{Widths, Pointer}
 use Rattle.tw_types.specs.Values.{Value, UnitValue, Number, Truth, Address, PairValue, zero_value}
-use Rattle.tw_resolve.specs.Setting.{Setting, type_of}
+use Rattle.tw_resolve.specs.Setting.{Setting, type_of, pointee}
 use Rattle.tw_state.specs.States.{Store}
 use Rattle.tw_state.specs.Parts.{value_at}
 
@@ -24,6 +24,10 @@ same_value x y = false
 -- the zero of a written type
 abbrev pub zero_of : Setting → WrittenTree → Option Value
 zero_of setting ty = option_map zero_value (type_of setting ty)
+
+-- the zero of the type that a target of pointers denotes, by the number of the target
+abbrev pub zero_of_target : Setting → ℕ → Option Value
+zero_of_target setting target = option_map zero_value (pointee setting (Some (Pointer target)))
 
 -- the value of an atom, if the variable of a path has one
 abbrev pub atom_value : Setting → Store → AtomTree → Option Value

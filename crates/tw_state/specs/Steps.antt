@@ -18,7 +18,7 @@ use Rattle.tw_check.specs.Names.{Names}
 use Rattle.tw_check.specs.Right.{overlap}
 use Rattle.tw_state.specs.States.{Name, Free, Live, Store, State, with_value, cell_at, with_cell}
 use Rattle.tw_state.specs.Parts.{value_at, with_value_at}
-use Rattle.tw_state.specs.Evaluation.{zero_of}
+use Rattle.tw_state.specs.Evaluation.{zero_of_target}
 
 -- what is known of a function while it runs: the types of its variables, and the number that its bound has
 pub record Activation : Type 0 where
@@ -66,7 +66,7 @@ pub record Takes (setting : Setting) (to : WrittenTree) (block : ℕ) (old new :
   pub cleared : Value
   pub next : ℕ
   pub numbered : target_number setting.scope.targets to ≡ Some target
-  pub is_zero : zero_of setting to ≡ Some cleared
+  pub is_zero : zero_of_target setting target ≡ Some cleared
   pub first : old.head ≡ block
   pub is_free : cell_at old.cells block ≡ Some (Free next)
   pub after : new ≡ record old { head = next; cells = with_cell old.cells block (Live target cleared) }

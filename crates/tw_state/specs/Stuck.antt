@@ -14,7 +14,7 @@ use Rattle.tw_check.specs.Liveness.{live_after}
 use Rattle.tw_check.specs.Reverse.{reverse_of}
 use Rattle.tw_state.specs.States.{Name, Live, State, cell_at}
 use Rattle.tw_state.specs.Parts.{value_at}
-use Rattle.tw_state.specs.Evaluation.{zero_of, expr_value}
+use Rattle.tw_state.specs.Evaluation.{zero_of, zero_of_target, expr_value}
 use Rattle.tw_state.specs.Steps.{Activation, activation_of, live_names, Adds, callee_bound, links, seen_by}
 use Rattle.tw_state.specs.Semantics.{Runs}
 
@@ -104,5 +104,5 @@ pub data Sticks (setting : Setting) : Activation → StmtTree → State → Reas
   StuckFreeDirty : {target : NameTree} {act at to : _} {old bare : State} (block number : ℕ) (value cleared : Value)
       → Adds target.text (Address block) bare old
       → target_number setting.scope.targets to ≡ Some number → cell_at bare.cells block ≡ Some (Live number value)
-      → zero_of setting to ≡ Some cleared → value ≢ cleared
+      → zero_of_target setting number ≡ Some cleared → value ≢ cleared
       → Sticks setting act (LetStmt at false target (AllocRhs to)) old Dirty at
