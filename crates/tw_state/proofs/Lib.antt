@@ -13,3 +13,6 @@ pub mod Calls
 pub mod Determined
 pub mod Undone
 pub mod Sticking
+pub mod TypedTrees
+pub mod TypedValues
+pub mod TypedRuns
