@@ -16,3 +16,4 @@ pub mod Sticking
 pub mod TypedTrees
 pub mod TypedValues
 pub mod TypedRuns
+pub mod FreeList
