@@ -17,3 +17,5 @@ pub mod TypedTrees
 pub mod TypedValues
 pub mod TypedRuns
 pub mod FreeList
+pub mod Bijections
+pub mod RenamedRuns
