@@ -19,3 +19,4 @@ pub mod TypedRuns
 pub mod FreeList
 pub mod Bijections
 pub mod RenamedRuns
+pub mod LiveRuns
