@@ -20,3 +20,4 @@ pub mod FreeList
 pub mod Bijections
 pub mod RenamedRuns
 pub mod LiveRuns
+pub mod KeptRuns
