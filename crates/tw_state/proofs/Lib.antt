@@ -21,3 +21,5 @@ pub mod Bijections
 pub mod RenamedRuns
 pub mod LiveRuns
 pub mod KeptRuns
+pub mod Deciding
+pub mod Ending

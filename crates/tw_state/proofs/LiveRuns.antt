@@ -113,7 +113,7 @@ operand_at held bare target written (arg ∷ args) each name one =
     (λ is. ap bare (same_name name arg.text is) ∙ each.0.live)
     (λ other. deeper (subst (λ k. (k || is_one_of name (texts args)) ≡ true) other one))
 
-operands_live : (held bare : Names) (target : NameTree) (written : Bool) (store : Store) (names : List NameTree) → ((name : Name) → bytes_eq target.text name ≡ false → is_some (store name) ≡ bare name)
+pub operands_live : (held bare : Names) (target : NameTree) (written : Bool) (store : Store) (names : List NameTree) → ((name : Name) → bytes_eq target.text name ≡ false → is_some (store name) ≡ bare name)
     → AllByRecursion (IsOperand held bare target written) names → AllByRecursion (λ arg. is_some (store arg.text) ≡ true) names
 operands_live held bare target written store [] agree each = tt
 operands_live held bare target written store (name ∷ names) agree each =

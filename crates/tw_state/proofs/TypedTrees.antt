@@ -1,5 +1,5 @@
 -- Typed expressions, statements and functions, by the types of a function's variables at its end.
-use Rattle.std.proofs.Common.{◌≡◌, ◌<◌, ◌^◌, ℕ, List, [], ◌∷◌, Some}
+use Rattle.std.proofs.Common.{◌≡◌, ◌<◌, ◌^◌, ℕ, List, [], ◌∷◌, map, Some}
 use Rattle.std.specs.List.{AllByRecursion}
 use Rattle.tw_syntax.specs.declared.term.OpKind.{OpKind}
 use Rattle.tw_syntax.specs.declared.term.OpKind.TheVariants as op
@@ -50,12 +50,13 @@ module _ (setting : Setting) where
   ArgsFit types (param ∷ params) (arg ∷ args) = ((ty : Ty) × (type_of setting param.ty ≡ Some ty) × (types arg.text ≡ Some ty)) × ArgsFit types params args
   ArgsFit types params args = ⊥
 
-  -- the callee is there, and the call has its result and its parameters
+  -- the callee is there, the call has its result and its parameters, and no argument is repeated
   pub record CallFits (types : Variables) (callee : NameTree) (args : List NameTree) (ty : Ty) : Type 0 where
     pub fun : FunTree
     pub named : fun_named setting callee.text ≡ Some fun
     pub result : type_of setting fun.result ≡ Some ty
     pub fit : ArgsFit types fun.params args
+    pub once : AreDifferent (map (λ arg. arg.text) args)
 
   -- the target of an allocation is one of the program's, and denotes a type
   pub record AllocFits (to : _) (ty : Ty) : Type 0 where
