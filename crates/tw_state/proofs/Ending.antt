@@ -41,11 +41,11 @@ pub record ValueThere (widths : Widths) (o : Option Value) (ty : Ty) : Type 0 wh
   pub is : o ≡ Some value
   pub typed : HasType widths value ty
 
-live_value : (store : Store) (live : Names) (name : Name) → live_names store ≡ live → live name ≡ true → (value : Value) × (store name ≡ Some value)
+pub live_value : (store : Store) (live : Names) (name : Name) → live_names store ≡ live → live name ≡ true → (value : Value) × (store name ≡ Some value)
 live_value store live name same is =
     by_option (store name) (λ none. contradiction {test = true} refl (sym is ∙ ap (λ (l : Names). l name) (sym same) ∙ ap is_some none)) (λ value found. (value, found))
 
-dead_value : (store : Store) (live : Names) (name : Name) → live_names store ≡ live → live name ≡ false → store name ≡ None
+pub dead_value : (store : Store) (live : Names) (name : Name) → live_names store ≡ live → live name ≡ false → store name ≡ None
 dead_value store live name same is =
     by_option (store name) (λ none. none) (λ value found. contradiction {test = true} refl (sym (ap is_some found) ∙ ap (λ (l : Names). l name) same ∙ is))
 

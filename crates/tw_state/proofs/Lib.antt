@@ -23,3 +23,5 @@ pub mod LiveRuns
 pub mod KeptRuns
 pub mod Deciding
 pub mod Ending
+pub mod CallEnds
+pub mod Total

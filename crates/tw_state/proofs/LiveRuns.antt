@@ -57,7 +57,7 @@ names_of_params params = map (λ param. param.name.text) params
 
 module _ (setting : Setting) (types : Variables) where
   -- the names of the caller that a call shares, besides the target, are the arguments
-  outer_params : (params : List ParamTree) (args : List NameTree) → ArgsFit setting types params args → outer (param_links params args) ≡ texts args
+  pub outer_params : (params : List ParamTree) (args : List NameTree) → ArgsFit setting types params args → outer (param_links params args) ≡ texts args
   outer_params [] [] fit = refl
   outer_params (param ∷ params) (arg ∷ args) fit = ap (λ names. arg.text ∷ names) (outer_params params args fit.1)
   outer_params [] (arg ∷ args) fit = absurd fit
@@ -120,7 +120,7 @@ operands_live held bare target written store (name ∷ names) agree each =
     (agree name.text each.0.other ∙ each.0.live, operands_live held bare target written store names agree each.1)
 
 module _ (setting : Setting) (types : Variables) (fun : FunTree) (target : NameTree) (args : List NameTree) (fit : ArgsFit setting types fun.params args) (different : AreDifferent (fun.returned.text ∷ param_names fun)) where
-  abbrev shared : List (Name × Name)
+  abbrev pub shared : List (Name × Name)
   shared = links fun target args
 
   seen_returned : (store : Store) → seen shared store fun.returned.text ≡ store target.text
@@ -130,14 +130,14 @@ module _ (setting : Setting) (types : Variables) (fun : FunTree) (target : NameT
   seen_other store name other = rw other refl
 
   -- what the callee sees at its start and at its end
-  seen_at_start : (store : Store) → store target.text ≡ None → AllByRecursion (λ arg. is_some (store arg.text) ≡ true) args → live_names (seen shared store) ≡ live_at_start fun
+  pub seen_at_start : (store : Store) → store target.text ≡ None → AllByRecursion (λ arg. is_some (store arg.text) ≡ true) args → live_names (seen shared store) ≡ live_at_start fun
   seen_at_start store absent live =
       fun_ext (λ name.
       by_test (bytes_eq fun.returned.text name)
       (λ is. subst (λ n. is_some (seen shared store n) ≡ live_at_start fun n) (same_name fun.returned.text name is) (ap is_some (seen_returned store ∙ absent) ∙ sym different.0))
       (λ other. ap is_some (seen_other store name other) ∙ seen_params setting types fun.params args store fit live name))
 
-  seen_at_end : (store : Store) → is_some (store target.text) ≡ true → AllByRecursion (λ arg. is_some (store arg.text) ≡ true) args → live_names (seen shared store) ≡ live_at_end fun
+  pub seen_at_end : (store : Store) → is_some (store target.text) ≡ true → AllByRecursion (λ arg. is_some (store arg.text) ≡ true) args → live_names (seen shared store) ≡ live_at_end fun
   seen_at_end store present live =
       fun_ext (λ name.
       by_test (bytes_eq fun.returned.text name)

@@ -190,7 +190,7 @@ module _ (setting : Setting) where
       (outer_fits callee caller shared new.store different links typed.names name)
       (λ other. subst (Fits setting.widths (caller name)) (sym (keeps name other)) (before.names name)))
 
-  zero_typed : {fun other : FunTree} {o : Option FunTree} {v : Value} {ty : Ty} → o ≡ Some fun → o ≡ Some other → type_of setting other.result ≡ Some ty → zero_of setting fun.result ≡ Some v → HasType setting.widths v ty
+  pub zero_typed : {fun other : FunTree} {o : Option FunTree} {v : Value} {ty : Ty} → o ≡ Some fun → o ≡ Some other → type_of setting other.result ≡ Some ty → zero_of setting fun.result ≡ Some v → HasType setting.widths v ty
   zero_typed {fun} {other} {o} {v} {ty} named named2 result zero =
       let same = same_some named named2 in
       subst (λ u. HasType setting.widths u ty)
