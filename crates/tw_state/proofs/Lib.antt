@@ -25,3 +25,4 @@ pub mod Deciding
 pub mod Ending
 pub mod CallEnds
 pub mod Total
+pub mod EntryResults
