@@ -26,3 +26,4 @@ pub mod Ending
 pub mod CallEnds
 pub mod Total
 pub mod EntryResults
+pub mod RenamedResults

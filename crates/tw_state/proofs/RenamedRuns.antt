@@ -130,7 +130,7 @@ module _ {blocks : ℕ} (pi : Permutation blocks) where
           ∙ ap (λ v. with_cell (renamed_cells pi old.cells) (pi.to block) (Live t.target v)) (zero_is_renamed (pointee setting (Some (Pointer t.target))) t.is_zero));
     }
 
-    added_zero_renamed : (o : Option Ty) {name : Name} {value : Value} {bare full : State} → option_map zero_value o ≡ Some value → Adds name value bare full → Adds name value (renamed pi bare) (renamed pi full)
+    pub added_zero_renamed : (o : Option Ty) {name : Name} {value : Value} {bare full : State} → option_map zero_value o ≡ Some value → Adds name value bare full → Adds name value (renamed pi bare) (renamed pi full)
     added_zero_renamed o {name} {value} {bare} {full} is a =
         subst (λ v. Adds name v (renamed pi bare) (renamed pi full)) (zero_is_renamed o is) (adds_renamed a)
 
