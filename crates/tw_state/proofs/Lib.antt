@@ -27,3 +27,4 @@ pub mod CallEnds
 pub mod Total
 pub mod EntryResults
 pub mod RenamedResults
+pub mod WorkedRuns

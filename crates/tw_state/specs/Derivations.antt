@@ -16,38 +16,38 @@ use Rattle.tw_state.specs.Semantics.{Runs, RunsNothing, RunsThen, RunsLet, RunsU
 use Rattle.tw_state.specs.Stuck.{Unmet, Wild, Dirty, Pad, Sticks, StuckFirst, StuckRest, StuckUnlet, StuckMemSwap, StuckPad, StuckFreeDirty}
 
 -- a name, a path without steps, and a path with one step, each at a column
-abbrev named : List ℕ → ℕ → NameTree
+abbrev pub named : List ℕ → ℕ → NameTree
 named text col = record { text = text; at = place 1 col }
 
-abbrev path : List ℕ → ℕ → PathTree
+abbrev pub path : List ℕ → ℕ → PathTree
 path text col = record { root = named text col; steps = [] }
 
-abbrev half : List ℕ → ℕ → ℕ → PathTree
+abbrev pub half : List ℕ → ℕ → ℕ → PathTree
 half text col step = record { root = named text col; steps = step ∷ [] }
 
 -- right sides: a number, a truth value, a variable, and `not` of a variable
-abbrev number : ℕ → ℕ → RhsTree
+abbrev pub number : ℕ → ℕ → RhsTree
 number n col = ExprRhs (OneExpr (place 1 col) (NumberAtom (place 1 col) n))
 
-abbrev truth : Bool → ℕ → RhsTree
+abbrev pub truth : Bool → ℕ → RhsTree
 truth true col = ExprRhs (OneExpr (place 1 col) (TrueAtom (place 1 col)))
 truth false col = ExprRhs (OneExpr (place 1 col) (FalseAtom (place 1 col)))
 
-abbrev variable : List ℕ → ℕ → AtomTree
+abbrev pub variable : List ℕ → ℕ → AtomTree
 variable text col = PlaceAtom (place 1 col) (path text col)
 
-abbrev copied : List ℕ → ℕ → RhsTree
+abbrev pub copied : List ℕ → ℕ → RhsTree
 copied text col = ExprRhs (OneExpr (place 1 col) (variable text col))
 
 -- `let` at a column; the name comes four columns later
-abbrev assign : ℕ → List ℕ → RhsTree → StmtTree
+abbrev pub assign : ℕ → List ℕ → RhsTree → StmtTree
 assign col target rhs = LetStmt (place 1 col) true (record { text = target; at = place 1 col }) rhs
 
-abbrev unassign : ℕ → List ℕ → RhsTree → StmtTree
+abbrev pub unassign : ℕ → List ℕ → RhsTree → StmtTree
 unassign col target rhs = LetStmt (place 1 col) false (record { text = target; at = place 1 col }) rhs
 
 -- a program with the target `bool` and these functions, in words of 8 bits and addresses of 2
-abbrev program : List FunTree → Setting
+abbrev pub program : List FunTree → Setting
 program funs = record {
   widths = record { word = 8; addr = 2 };
   scope = record { declared = λ name. None; targets = BoolType (place 1 1) ∷ [] };
@@ -56,21 +56,21 @@ program funs = record {
 }
 
 -- a function without calls, in which each variable is a pointer to `bool`, or each a truth value
-abbrev of_pointers : Activation
+abbrev pub of_pointers : Activation
 of_pointers = record { types = λ name. Some (Pointer 0); bound = 0 }
 
-abbrev of_truths : Activation
+abbrev pub of_truths : Activation
 of_truths = record { types = λ name. Some Boolean; bound = 0 }
 
 -- `free 1; 1 free 2; 2 free 3; 3 free 0`, and these names
-abbrev fresh : Store → State
+abbrev pub fresh : Store → State
 fresh store = record { head = 1; cells = Free 2 ∷ Free 3 ∷ Free 0 ∷ []; store = store }
 
-abbrev only : List ℕ → Value → Store
+abbrev pub only : List ℕ → Value → Store
 only name value = with_value empty name value
 
 -- a step that adds a name
-abbrev adds : (name : Name) (value : Value) (state : State) → state.store name ≡ None → Adds name value state (record state { store = with_value state.store name value })
+abbrev pub adds : (name : Name) (value : Value) (state : State) → state.store name ≡ None → Adds name value state (record state { store = with_value state.store name value })
 adds name value state unused = record { unused = unused; after = refl }
 
 -- `fun main(x: uint) -> uint { let x -> 5; let x <- 5; let y <- x; return y; }`
@@ -125,7 +125,7 @@ abbrev exchange : StmtTree
 exchange = Then (assign 34 (codes "v") (truth false 43)) (Then (MemSwapStmt (place 1 50) (path (codes "p") 51) (path (codes "v") 57)) Nothing)
 
 -- the names `p` and `v`
-abbrev p_and_v : ℕ → Bool → Store
+abbrev pub p_and_v : ℕ → Bool → Store
 p_and_v block v = with_value (only (codes "p") (Address block)) (codes "v") (Truth v)
 
 -- `p @0` is null, and nothing is exchanged
@@ -141,10 +141,10 @@ block_is_free =
     (StuckFirst (StuckMemSwap 1 0 refl (λ same. cc) refl (λ value same. cc)))
 
 -- `if c { let x -> true; }` at column 38 of a line
-abbrev remove_x : StmtTree
+abbrev pub remove_x : StmtTree
 remove_x = IfStmt (place 1 38) (path (codes "c") 41) (Then (unassign 45 (codes "x") (truth true 54)) Nothing) Nothing
 
-abbrev c_and_x : Bool → Bool → Store
+abbrev pub c_and_x : Bool → Bool → Store
 c_and_x c x = with_value (only (codes "c") (Truth c)) (codes "x") (Truth x)
 
 -- `c true; x true` runs the branch
