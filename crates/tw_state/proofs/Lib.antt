@@ -28,3 +28,4 @@ pub mod Total
 pub mod EntryResults
 pub mod RenamedResults
 pub mod WorkedRuns
+pub mod Known
