@@ -29,3 +29,4 @@ pub mod EntryResults
 pub mod RenamedResults
 pub mod WorkedRuns
 pub mod Known
+pub mod SoundExpressions

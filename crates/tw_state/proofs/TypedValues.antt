@@ -35,7 +35,7 @@ both_values None (Some w) f value is go = absurd (none-some value is)
 both_values None None f value is go = absurd (none-some value is)
 both_values (Some v) None f value is go = absurd (none-some value is)
 
-part-none : {P : Type 0} {ty : Ty} (steps : List ℕ) → part steps None ≡ Some ty → P
+pub part-none : {P : Type 0} {ty : Ty} (steps : List ℕ) → part steps None ≡ Some ty → P
 part-none {P} {ty} [] is = absurd (none-some ty is)
 part-none (step ∷ steps) is = part-none steps is
 
