@@ -55,7 +55,7 @@ numbered_after : (more targets : List WrittenTree) (to : WrittenTree) → IsNumb
 numbered_after [] targets to is = is
 numbered_after (other ∷ more) targets to is = numbered_after more (with_target targets other) to (numbered_later targets other to is)
 
-all_numbered : (more targets : List WrittenTree) → AllByRecursion (IsNumbered (fold with_target targets more)) more
+pub all_numbered : (more targets : List WrittenTree) → AllByRecursion (IsNumbered (fold with_target targets more)) more
 all_numbered [] targets = tt
 all_numbered (to ∷ more) targets = (numbered_after more (with_target targets to) to (numbered_now targets to), all_numbered more (with_target targets to))
 

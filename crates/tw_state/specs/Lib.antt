@@ -6,3 +6,10 @@ pub mod Renaming
 pub mod Encoding
 pub mod Examples
 pub mod FromTrees
+pub mod Parts
+pub mod Evaluation
+pub mod Steps
+pub mod Semantics
+pub mod Stuck
+pub mod Results
+pub mod Derivations

@@ -1,5 +1,5 @@
 -- States: a free head, the cells of the blocks, and the values of names.
-use Rattle.std.specs.Prelude.{◌≡◌, ℕ, zero, suc, ◌==◌, if◌then◌else◌, List, [], ◌∷◌, Option, Some, None, count_by, slice_get}
+use Rattle.std.specs.Prelude.{◌≡◌, ℕ, zero, suc, ◌==◌, if◌then◌else◌, List, [], ◌∷◌, Option, Some, None, count_by, slice_get, slice_set}
 use Rattle.std.specs.Str.{bytes_eq}
 use Rattle.tw_types.specs.Values.{Value}
 
@@ -34,6 +34,11 @@ pub record State : Type 0 where
 abbrev pub cell_at : List Cell → ℕ → Option Cell
 cell_at cells zero = None
 cell_at cells (suc i) = slice_get cells i
+
+-- the cells with another one of this block
+abbrev pub with_cell : List Cell → ℕ → Cell → List Cell
+with_cell cells zero cell = cells
+with_cell cells (suc i) cell = slice_set cells i cell
 
 -- from this address on, the links pass these cells, all of them free, and end at 0
 abbrev pub Links : List Cell → ℕ → List ℕ → Type 0
