@@ -22,6 +22,7 @@ mod sizes;
 mod statements;
 mod tables;
 mod target_table;
+mod target_types;
 mod targets;
 #[cfg(test)]
 mod tests;
