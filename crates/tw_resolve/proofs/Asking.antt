@@ -11,15 +11,17 @@ use Rattle.tw_types.specs.Types.{Ty}
 use Rattle.tw_types.specs.FromCode.{ty_of}
 use Rattle.tw_resolve.specs.declared.tables.Tables.{Tables}
 use Rattle.tw_resolve.specs.declared.variables.Variables.{Variables as VariablesOfCode}
-use Rattle.tw_resolve.specs.Declarations.{Name}
+use Rattle.tw_resolve.specs.Declarations.{Name, is_one_of}
 use Rattle.tw_resolve.specs.Setting.{Setting, type_of}
 use Rattle.tw_resolve.specs.Expressions.{Variables, variable_type, params_of}
-use Rattle.tw_resolve.specs.Programs.{end_variables, param_variables}
-use Rattle.tw_resolve.specs.Resolved.{params_at, param_type_at, result_at, type_at, variables_at}
+use Rattle.tw_resolve.specs.Programs.{end_variables, param_variables, variable_names}
+use Rattle.tw_resolve.specs.Resolved.{params_at, param_type_at, result_at, type_at, variable_names_at, variables_at}
 use Rattle.tw_resolve.specs.Tables.{AreTypedTablesOf, AreVariables, program_setting, setting_in}
 use Rattle.tw_resolve.specs.Variables.{variables_in}
+use Rattle.tw_resolve.proofs.Assigned.{names_in}
+use Rattle.tw_resolve.proofs.Each.{each_at}
 use Rattle.tw_resolve.proofs.Known.{IsKnownFun}
-use Rattle.tw_resolve.proofs.Params.{end_after_params}
+use Rattle.tw_resolve.proofs.Params.{end_after_params, type_there as variable_there}
 use Rattle.tw_resolve.proofs.Sets.{found_types}
 use Rattle.tw_resolve.proofs.WellTyped.{same}
 
@@ -39,12 +41,6 @@ variables_found setting found number variables are below is =
     ∙ ap (λ (all : List Variables). slice_get all number) (sym are)
     ∙ slice_get-map (λ (v : VariablesOfCode). variables_in v.table.entries) found number
     ∙ ap (option_map (λ (v : VariablesOfCode). variables_in v.table.entries)) at
-
--- what holds of each item holds of the one at a place
-all_at : {X : Type 0} (P : X → Type 0) (xs : List X) (place : ℕ) (x : X) → AllByRecursion P xs → slice_get xs place ≡ Some x → P x
-all_at P [] place x all at = absurd (cc at)
-all_at P (y ∷ xs) zero x all at = (let same : y ≡ x = cc at in subst P same all.0)
-all_at P (y ∷ xs) (suc place) x all at = all_at P xs place x all.1 at
 
 -- an item of the first of two lists
 get_first : {X : Type 0} (xs ys : List X) (place : ℕ) → place < length xs → slice_get (xs ++ ys) place ≡ slice_get xs place
@@ -79,7 +75,7 @@ written_type program tables written (Err e) typed is = tt
 module _ (setting : Setting) (known : AllByRecursion (IsKnownFun setting) setting.funs) (number : ℕ) where
   -- what is known of it
   known_at : (fun : FunTree) → slice_get setting.funs number ≡ Some fun → IsKnownFun setting fun
-  known_at fun at = all_at (IsKnownFun setting) setting.funs number fun known at
+  known_at fun at = each_at (IsKnownFun setting) setting.funs number fun known at
 
   -- its returned variable has the type of the result
   pub result_found : (fun : FunTree) (found : Option Ty) → slice_get setting.funs number ≡ Some fun → found ≡ type_at setting number fun.returned.text
@@ -142,3 +138,25 @@ module _ (setting : Setting) (known : AllByRecursion (IsKnownFun setting) settin
     where
       one : {x y : Variables} → Some x ≡ Some y → x ≡ y
       one same = cc same
+
+-- the names of the variables of a function
+pub names_found : (setting : Setting) (number : ℕ) (variables : Variables) → AllByRecursion (λ fun. names_in (end_variables setting fun) ≡ variable_names fun) setting.funs
+    → variables_at setting number ≡ Some variables → variable_names_at setting number ≡ Some (names_in variables)
+names_found setting number variables named is = by (slice_get setting.funs number) refl is
+  where
+    by : (o : Option FunTree) → slice_get setting.funs number ≡ o → option_map (end_variables setting) o ≡ Some variables → option_map variable_names o ≡ Some (names_in variables)
+    by (Some fun) at is =
+        ap Some (sym (each_at (λ f. names_in (end_variables setting f) ≡ variable_names f) setting.funs number fun named at))
+        ∙ ap (option_map names_in) is
+    by None at is = absurd (cc is)
+
+-- a variable has a type exactly if it has a name of the function
+pub name_there : (setting : Setting) (number : ℕ) (variables : Variables) (name : Name) (found : Option ty.Ty)
+    → variable_names_at setting number ≡ Some (names_in variables) → option_map ty_of found ≡ variable_type variables name
+    → option_map (is_one_of name) (variable_names_at setting number) ≡ Some (is_some found)
+name_there setting number variables name found named is =
+    ap (option_map (is_one_of name)) named ∙ ap Some (sym (variable_there variables name) ∙ ap is_some (sym is) ∙ same_there found)
+  where
+    same_there : (o : Option ty.Ty) → is_some (option_map ty_of o) ≡ is_some o
+    same_there (Some ty) = refl
+    same_there None = refl

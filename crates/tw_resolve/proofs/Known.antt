@@ -18,7 +18,7 @@ use Rattle.tw_resolve.proofs.Demands.{Holds, EachHolds}
 use Rattle.tw_resolve.proofs.Each.{each_first, each_rest, each-append}
 use Rattle.tw_resolve.proofs.Params.{AreParams, params_first, returned_type}
 
-is_some_pair : (first second : Option Ty) → is_some first ≡ true → is_some second ≡ true → is_some (pair_of first second) ≡ true
+pub is_some_pair : (first second : Option Ty) → is_some first ≡ true → is_some second ≡ true → is_some (pair_of first second) ≡ true
 is_some_pair (Some first) (Some second) one two = refl
 is_some_pair None second one two = absurd (cc one)
 is_some_pair (Some first) None one two = absurd (cc two)
@@ -53,12 +53,12 @@ module _ (setting : Setting) (complete : AreComplete setting.scope setting.types
   names_of_parts (PtrType at to) each = names_of_parts to (each_rest Holds (size_rules setting (written_place to) (type_of setting to)) (part_rules setting to) each)
   names_of_parts (NamedType at name) each = each.0
 
-  names_of_written : (written : WrittenTree) → EachHolds (written_rules setting written) → names_declared setting.scope.declared written ≡ true
+  pub names_of_written : (written : WrittenTree) → EachHolds (written_rules setting written) → names_declared setting.scope.declared written ≡ true
   names_of_written written each =
       names_of_parts written (each_rest Holds (size_rules setting (written_place written) (type_of setting written)) (part_rules setting written) each)
 
   -- a written type has a type if its names are declared and its targets have numbers
-  known : (written : WrittenTree) → names_declared setting.scope.declared written ≡ true → AreNumbered (targets_in written) → IsKnown setting written
+  pub known : (written : WrittenTree) → names_declared setting.scope.declared written ≡ true → AreNumbered (targets_in written) → IsKnown setting written
   known (UnitType at) names numbered = refl
   known (UintType at) names numbered = refl
   known (BoolType at) names numbered = refl

@@ -1,4 +1,5 @@
 pub mod Asking
+pub mod Assigned
 pub mod AtPlaces
 pub mod Declaring
 pub mod Demands

@@ -57,7 +57,7 @@ returned_type setting fun variables each known =
     fitting (type_of setting fun.result) (variable_type variables fun.returned.text) known each.0 each.1.1.0
 
 -- a variable has a type if it is declared
-type_there : (variables : Variables) (name : Name) → is_some (variable_type variables name) ≡ is_one_of name (map (λ variable. variable.0) variables)
+pub type_there : (variables : Variables) (name : Name) → is_some (variable_type variables name) ≡ is_one_of name (map (λ variable. variable.0) variables)
 type_there [] name = refl
 type_there (first ∷ variables) name = by (bytes_eq name first.0) (type_there variables name)
   where

@@ -22,5 +22,8 @@ variables = list.is_set (hlevel (names, types))
 pub found_types : IsSet (Option Ty)
 found_types = hlevel (types, ⊎_set)
 
+pub found_names : IsSet (Option (List Name))
+found_names = hlevel (list.is_set names, ⊎_set)
+
 pub found_variables : IsSet (Option Variables)
 found_variables = hlevel (variables, ⊎_set)

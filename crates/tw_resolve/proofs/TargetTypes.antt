@@ -15,6 +15,7 @@ use Rattle.tw_types.proofs.Tables.{interned-new, place_of-new}
 use Rattle.tw_resolve.specs.Entries.{IsTarget, table_targets}
 use Rattle.tw_resolve.specs.Setting.{Setting, type_of}
 use Rattle.tw_resolve.proofs.AtPlaces.{found_next}
+use Rattle.tw_resolve.proofs.Each.{each_at}
 use Rattle.tw_resolve.proofs.Entries.{position-map}
 
 -- the type of the last target is set
@@ -60,11 +61,6 @@ distinct [] keyed all = tt
 distinct (entry ∷ entries) keyed all = (apart entries keyed.1 entry.0 (written_tree entry.1.now) keyed.0.key all.0, distinct entries keyed.1 all.1)
 
 -- a target that is written differently from the others
-at_place : {X : Type 0} (P : X → Type 0) (xs : List X) (place : ℕ) (x : X) → AllByRecursion P xs → slice_get xs place ≡ Some x → P x
-at_place P [] place x all at = absurd (cc at)
-at_place P (y ∷ xs) zero x all at = (let same : y ≡ x = cc at in subst P same all.0)
-at_place P (y ∷ xs) (suc place) x all at = at_place P xs place x all.1 at
-
 none_before : (targets : List WrittenTree) (place : ℕ) (to : WrittenTree) → IsDistinct alike targets → slice_get targets place ≡ Some to
     → AllByRecursion (λ other. alike to other ≡ false) (take place targets)
 unfolding IsDistinct
@@ -72,7 +68,7 @@ none_before [] zero to all at = tt
 none_before [] (suc place) to all at = tt
 none_before (first ∷ targets) zero to all at = tt
 none_before (first ∷ targets) (suc place) to all at = (
-  bytes_eq-sym (type_print to) (type_print first) ∙ at_place (λ other. alike first other ≡ false) targets place to all.0 at,
+  bytes_eq-sym (type_print to) (type_print first) ∙ each_at (λ other. alike first other ≡ false) targets place to all.0 at,
   none_before targets place to all.1 at,
 )
 

@@ -1,5 +1,5 @@
 -- Well-typed programs, and the refusals of the others.
-use Rattle.std.specs.Prelude.{◌≡◌, ◌⊎◌, ℕ, suc, not, List, [], ◌∷◌, ◌++◌, map, flat_map, fold, Option, Some, None, is_some}
+use Rattle.std.specs.Prelude.{◌≡◌, ◌⊎◌, ℕ, suc, not, if◌then◌else◌, List, [], ◌∷◌, ◌++◌, map, flat_map, fold, Option, Some, None, is_some}
 use Rattle.std.specs.List.{AllByRecursion}
 use Rattle.tw_text.specs.declared.refusal.Fault.{Fault}
 use Rattle.tw_text.specs.declared.refusal.Fault.TheVariants as fault
@@ -16,7 +16,7 @@ use Rattle.tw_resolve.specs.Denotes.{scope_of, AreTypes, IsRecursive}
 use Rattle.tw_resolve.specs.Names.{name_rules}
 use Rattle.tw_resolve.specs.Setting.{Setting, type_of, size_rules, part_rules, written_rules, fits}
 use Rattle.tw_resolve.specs.Expressions.{Variables, variable_type}
-use Rattle.tw_resolve.specs.Statements.{with_variable, variables_after, stmt_rules}
+use Rattle.tw_resolve.specs.Statements.{with_variable, assigned, variables_after, stmt_rules}
 
 -- an alias is not too deep and not too large, and neither are the targets in it
 abbrev pub alias_rules : Setting → AliasTree → List Demand
@@ -52,6 +52,14 @@ return_rules setting fun variables =
 -- the variables at the end of a function
 abbrev pub end_variables : Setting → FunTree → Variables
 end_variables setting fun = variables_after setting (param_variables setting fun.params) fun.body
+
+-- names with one more, if it is none of them
+abbrev pub with_new : List Name → Name → List Name
+with_new names name = if is_one_of name names then names else names ++ name ∷ []
+
+-- the names of the variables of a function: its parameters, and then the targets of its assignments, each where it first appears
+abbrev pub variable_names : FunTree → List Name
+variable_names fun = fold with_new (map (λ param. param.name.text) fun.params) (assigned fun.body)
 
 -- the rules of the function of this number, in text order
 abbrev pub fun_rules : Setting → ℕ → FunTree → List Demand

@@ -7,7 +7,7 @@ use Rattle.tw_resolve.specs.declared.resolved.Resolved.{Resolved}
 use Rattle.tw_resolve.specs.Declarations.{Name}
 use Rattle.tw_resolve.specs.Setting.{Setting, type_of}
 use Rattle.tw_resolve.specs.Expressions.{Variables, variable_type, path_type, params_of}
-use Rattle.tw_resolve.specs.Programs.{end_variables}
+use Rattle.tw_resolve.specs.Programs.{end_variables, variable_names}
 use Rattle.tw_resolve.specs.Tables.{program_setting}
 
 -- the setting of a resolved program
@@ -29,6 +29,10 @@ result_at setting number = option_and_then (λ fun. type_of setting fun.result) 
 -- its variables, the parameters and then the targets of its assignments, with their types
 abbrev pub variables_at : Setting → ℕ → Option Variables
 variables_at setting number = option_map (end_variables setting) (slice_get setting.funs number)
+
+-- the names of its variables
+abbrev pub variable_names_at : Setting → ℕ → Option (List Name)
+variable_names_at setting number = option_map variable_names (slice_get setting.funs number)
 
 -- the type of one of its variables, by name
 abbrev pub type_at : Setting → ℕ → Name → Option Ty

@@ -30,6 +30,20 @@ variables_after setting variables (WithStmt at setup work) = variables_after set
 variables_after setting variables (BlockStmt at body) = variables_after setting variables body
 variables_after setting variables (SkipStmt at) = variables
 
+-- the targets of the assignments in a statement, in text order
+abbrev pub assigned : StmtTree → List Name
+assigned Nothing = []
+assigned (Then first rest) = assigned first ++ assigned rest
+assigned (Else at stmts) = assigned stmts
+assigned (LetStmt at true target rhs) = target.text ∷ []
+assigned (LetStmt at false target rhs) = []
+assigned (SwapStmt at left right) = []
+assigned (MemSwapStmt at pointer value) = []
+assigned (IfStmt at cond first other) = assigned first ++ assigned other
+assigned (WithStmt at setup work) = assigned setup ++ assigned work
+assigned (BlockStmt at body) = assigned body
+assigned (SkipStmt at) = []
+
 -- whether a type is that of pointers
 abbrev pub is_pointer : Ty → Bool
 is_pointer (Pointer target) = true

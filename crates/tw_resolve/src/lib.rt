@@ -18,6 +18,8 @@ mod names_so_far;
 mod paths;
 mod recursion;
 mod resolved;
+#[cfg(test)]
+mod resolved_tests;
 mod sizes;
 mod statements;
 mod tables;

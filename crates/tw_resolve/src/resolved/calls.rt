@@ -1,11 +1,11 @@
 //! The types of the targets, functions and variables of a well-typed program.
-ghost use Rattle.std.specs.Prelude.{◌≡◌, ◌<◌, Some, length, option_map, IfOk};
+ghost use Rattle.std.specs.Prelude.{◌≡◌, ◌<◌, Some, is_some, length, map, option_map, IfOk};
 ghost use Rattle.tw_syntax.specs.Names.{path_tree};
 ghost use Rattle.tw_syntax.specs.Programs.{program_tree};
 ghost use Rattle.tw_syntax.specs.Types.{written_tree};
 ghost use Rattle.tw_types.specs.FromCode.{ty_of};
-ghost use Rattle.tw_resolve.specs.Declarations.{funs_of};
-ghost use Rattle.tw_resolve.specs.Resolved.{param_type_at, params_at, path_type_at, resolved_setting, result_at, type_at, variables_at};
+ghost use Rattle.tw_resolve.specs.Declarations.{funs_of, is_one_of};
+ghost use Rattle.tw_resolve.specs.Resolved.{param_type_at, params_at, path_type_at, resolved_setting, result_at, type_at, variable_names_at, variables_at};
 ghost use Rattle.tw_resolve.specs.Setting.{type_of};
 ghost use Rattle.tw_resolve.specs.Tables.{AreTargets};
 ghost use Rattle.tw_resolve.specs.Variables.{variables_in};
@@ -31,7 +31,8 @@ impl<'a> Resolved<'a> {
     /// assignments, in the order of their first assignments. There are more functions.
     pub fn variables(&self, number: usize) -> &Variables<'a>
         requires { number < length (funs_of (program_tree self.now.program.now).decls) }
-        ensures { variables_at (resolved_setting self.now) number ≡ Some (variables_in result.now.table.entries) }
+        ensures types { variables_at (resolved_setting self.now) number ≡ Some (variables_in result.now.table.entries) }
+        ensures names { variable_names_at (resolved_setting self.now) number ≡ Some (map (λ variable. variable.0) (variables_in result.now.table.entries)) }
     {
         &self.variables[number]
     }
@@ -39,7 +40,8 @@ impl<'a> Resolved<'a> {
     /// The type of a variable of the function of this number. `None` if it has no such variable. There are more functions.
     pub fn type_of(&self, number: usize, name: &str) -> Option<Ty<'a>>
         requires { number < length (funs_of (program_tree self.now.program.now).decls) }
-        ensures { option_map ty_of result ≡ type_at (resolved_setting self.now) number name.now }
+        ensures types { option_map ty_of result ≡ type_at (resolved_setting self.now) number name.now }
+        ensures there { option_map (is_one_of name.now) (variable_names_at (resolved_setting self.now) number) ≡ Some (is_some result) }
     {
         self.variables(number).get(name)
     }

@@ -14,17 +14,17 @@ at-requires c =
     let resolved = c.args.self.now in
     let setting = resolved_setting resolved in
     let variables = variables_in c.variables.result.now.table.entries in
-    let there = fun_there setting c.args.number variables c.variables.ensures in
+    let there = fun_there setting c.args.number variables c.variables.ensures.types in
     ∥∥₁_elim resolved.typed (hlevel le_prop)
     (λ are. place_found setting (all_funs (program_tree resolved.program.now) resolved.tables are) c.args.number there.0 variables c.args.place there.1
-    c.variables.ensures c.requires.param)
+    c.variables.ensures.types c.requires.param)
 
 pub returns : goal.returns
 returns c =
     let resolved = c.args.self.now in
     let setting = resolved_setting resolved in
     let variables = variables_in c.variables.result.now.table.entries in
-    let there = fun_there setting c.args.number variables c.variables.ensures in
+    let there = fun_there setting c.args.number variables c.variables.ensures.types in
     ∥∥₁_elim resolved.typed (found_types _ _)
     (λ are. param_found setting (all_funs (program_tree resolved.program.now) resolved.tables are) c.args.number there.0 variables c.args.place
-    c.at.result.0.now (ty_of c.at.result.1) there.1 c.variables.ensures c.requires.param c.at.ensures)
+    c.at.result.0.now (ty_of c.at.result.1) there.1 c.variables.ensures.types c.requires.param c.at.ensures)

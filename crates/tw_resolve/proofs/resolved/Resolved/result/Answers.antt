@@ -15,12 +15,12 @@ unwrap-requires c =
     type_there c.type_of.result
     (∥∥₁_elim resolved.typed (Bool-set _ _)
     (λ are. (result_found (resolved_setting resolved) (all_funs (program_tree resolved.program.now) resolved.tables are) c.args.number
-    (fun_tree c.fun_at-fun.result.now) (option_map ty_of c.type_of.result) c.fun_at-fun.ensures c.type_of.ensures).1))
+    (fun_tree c.fun_at-fun.result.now) (option_map ty_of c.type_of.result) c.fun_at-fun.ensures c.type_of.ensures.types).1))
 
 pub returns : goal.returns
 returns c =
     let resolved = c.args.self.now in
     ∥∥₁_elim resolved.typed (found_types _ _)
     (λ are. sym (result_found (resolved_setting resolved) (all_funs (program_tree resolved.program.now) resolved.tables are) c.args.number
-    (fun_tree c.fun_at-fun.result.now) (option_map ty_of c.type_of.result) c.fun_at-fun.ensures c.type_of.ensures).0
+    (fun_tree c.fun_at-fun.result.now) (option_map ty_of c.type_of.result) c.fun_at-fun.ensures c.type_of.ensures.types).0
     ∙ ap (option_map ty_of) c.unwrap.ensures)
