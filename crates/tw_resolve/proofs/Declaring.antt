@@ -1,40 +1,37 @@
--- The variables after one more is declared.
+-- The variables that a table holds.
 use denote.Bor.{Bor}
-use Rattle.std.proofs.Math.Path.{fun_ext}
-use Rattle.std.proofs.Common.{◌≡◌, ◌∙◌, ap, sym, refl, ℕ, Bool, true, false, cond, if◌then◌else◌, List, Option, Some, None, is_some, option_map, bytes_eq}
-use Rattle.std.proofs.lemmas.Bool.Decides.{same_from_decides}
-use Rattle.std.proofs.lemmas.Slice.Eq.{bytes_eq-Decides}
+use Rattle.std.proofs.Common.{◌≡◌, ◌∙◌, ap, sym, refl, ℕ, Bool, true, false, if◌then◌else◌, List, [], ◌∷◌, ◌++◌, Option, Some, None, option_map, is_some, bytes_eq}
 use Rattle.tw_types.specs.declared.types.Ty as ty
+use Rattle.tw_types.specs.Types.{Ty}
 use Rattle.tw_types.specs.FromCode.{ty_of}
 use Rattle.tw_resolve.specs.Declarations.{Name}
 use Rattle.tw_resolve.specs.Entries.{found}
+use Rattle.tw_resolve.specs.Expressions.{Variables, variable_type}
 use Rattle.tw_resolve.specs.Statements.{with_variable}
 use Rattle.tw_resolve.specs.Variables.{variables_in}
 
-pub bytes_eq-sym : (x y : List ℕ) → bytes_eq x y ≡ bytes_eq y x
-bytes_eq-sym x y =
-    same_from_decides (bytes_eq x y) (bytes_eq y x) (bytes_eq-Decides x y)
-    ((λ is. sym ((bytes_eq-Decides y x).0 is)), (λ same. (bytes_eq-Decides y x).1 (sym same)))
+type_in_first : (k : Bool) (first : ty.Ty) (rest : Option ty.Ty) (types : Option Ty) → option_map ty_of rest ≡ types
+    → option_map ty_of (if k then Some first else rest) ≡ (if k then Some (ty_of first) else types)
+type_in_first true first rest types same = refl
+type_in_first false first rest types same = same
 
-inserted : (k : Bool) (value : ty.Ty) (rest : Option ty.Ty)
-    → option_map ty_of (cond k (Some value) rest) ≡ (if k then Some (ty_of value) else option_map ty_of rest)
-inserted true value rest = refl
-inserted false value rest = refl
+-- the type of a variable is the one that the table holds
+pub type_found : (entries : List (Bor (List ℕ) × ty.Ty)) (name : Name) → option_map ty_of (found entries name) ≡ variable_type (variables_in entries) name
+type_found [] name = refl
+type_found (entry ∷ entries) name = type_in_first (bytes_eq name entry.0.now) entry.1 (found entries name) _ (type_found entries name)
 
--- a new name takes its type, and other names keep theirs
-pub variables_in-new : (old new : List (Bor (List ℕ) × ty.Ty)) (key : Bor (List ℕ)) (value : ty.Ty)
-    → is_some (found old key.now) ≡ false
-    → ((q : Bor (List ℕ)) → found new q.now ≡ cond (bytes_eq key.now q.now) (Some value) (found old q.now))
-    → variables_in new ≡ with_variable (variables_in old) key.now (Some (ty_of value))
-variables_in-new old new key value absent updates = fun_ext each
+-- a table has a variable if its name is found
+pub is_some-type : (entries : List (Bor (List ℕ) × ty.Ty)) (name : Name) → is_some (variable_type (variables_in entries) name) ≡ is_some (found entries name)
+is_some-type entries name = ap is_some (sym (type_found entries name)) ∙ same (found entries name)
   where
-    of_type : (x : Option ty.Ty) → is_some x ≡ false → is_some (option_map ty_of x) ≡ false
-    of_type None is = refl
-    of_type (Some y) is = absurd (cc is)
+    same : (x : Option ty.Ty) → is_some (option_map ty_of x) ≡ is_some x
+    same None = refl
+    same (Some x) = refl
 
-    each : (other : Name) → variables_in new other ≡ with_variable (variables_in old) key.now (Some (ty_of value)) other
-    each other =
-        rw (of_type (found old key.now) absent)
-        (ap (option_map ty_of) (updates (record { ref_ptr = (0, 0); now = other }))
-        ∙ inserted (bytes_eq key.now other) value (found old other)
-        ∙ ap (λ k. if k then Some (ty_of value) else variables_in old other) (bytes_eq-sym key.now other))
+-- a variable that is there stays, and a new one comes last
+pub with_known : (variables : Variables) (name : Name) (ty : Ty) → is_some (variable_type variables name) ≡ true → variables ≡ with_variable variables name (Some ty)
+with_known variables name ty known = rw known refl
+
+pub with_new : (variables : Variables) (name : Name) (ty : Ty) → is_some (variable_type variables name) ≡ false
+    → variables ++ (name, ty) ∷ [] ≡ with_variable variables name (Some ty)
+with_new variables name ty new = rw new refl

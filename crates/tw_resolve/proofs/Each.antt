@@ -1,5 +1,5 @@
 -- What holds of each item of a list.
-use Rattle.std.proofs.Common.{List, [], ◌∷◌, ◌++◌}
+use Rattle.std.proofs.Common.{◌≡◌, ℕ, zero, suc, List, [], ◌∷◌, ◌++◌, Some, slice_get, subst}
 use Rattle.std.specs.List.{AllByRecursion}
 
 module _ {X : Type 0} (P : X → Type 0) where
@@ -22,3 +22,9 @@ module _ {X : Type 0} (P : X → Type 0) where
   pub each_weaker : (Q : X → Type 0) → ((x : X) → P x → Q x) → (xs : List X) → AllByRecursion P xs → AllByRecursion Q xs
   each_weaker Q weaker [] each = tt
   each_weaker Q weaker (x ∷ xs) each = (weaker x each.0, each_weaker Q weaker xs each.1)
+
+  -- and of the one at a place
+  pub each_at : (xs : List X) (place : ℕ) (x : X) → AllByRecursion P xs → slice_get xs place ≡ Some x → P x
+  each_at [] place x each at = absurd (cc at)
+  each_at (y ∷ xs) zero x each at = (let same : y ≡ x = cc at in subst P same each.0)
+  each_at (y ∷ xs) (suc place) x each at = each_at xs place x each.1 at

@@ -30,7 +30,7 @@ same_position : {X Y : Type 0} (p : X → Bool) (q : Y → Bool) (f : X → Y) (
     → position p xs ≡ position q (map f xs)
 same_position p q f xs same = rw (same_or_len p q f xs same, length-map xs f) refl
 
-position-map : {X Y : Type 0} (q : Y → Bool) (f : X → Y) (xs : List X) → position q (map f xs) ≡ position (λ x. q (f x)) xs
+pub position-map : {X Y : Type 0} (q : Y → Bool) (f : X → Y) (xs : List X) → position q (map f xs) ≡ position (λ x. q (f x)) xs
 position-map q f xs = sym (same_position (λ x. q (f x)) q f xs (each_always _ (λ x. refl) xs))
 
 module _ {V T : Type 0} (tree : V → T) (text : T → Name) where

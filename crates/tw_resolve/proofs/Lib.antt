@@ -1,3 +1,5 @@
+pub mod Asking
+pub mod Assigned
 pub mod AtPlaces
 pub mod Declaring
 pub mod Demands
@@ -6,10 +8,12 @@ pub mod Each
 pub mod Entries
 pub mod Naming
 pub mod Parameters
+pub mod Params
 pub mod Parts
 pub mod Refusals
 pub mod Trying
 pub mod Ending
+pub mod Known
 pub mod InOrder
 pub mod Collecting
 pub mod Numbered
@@ -21,8 +25,11 @@ pub mod Inserting
 pub mod Opening
 pub mod Reaching
 pub mod Running
+pub mod Sets
 pub mod Stacks
 pub mod Steps
+pub mod TargetTypes
 pub mod TextOrder
 pub mod Visiting
+pub mod WellTyped
 pub mod Walking

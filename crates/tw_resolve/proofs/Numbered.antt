@@ -9,13 +9,13 @@ use Rattle.std.proofs.lemmas.Slice.Eq.{bytes_eq-Decides}
 use Rattle.indexmap.proofs.MapLemmas.{some_index}
 use Rattle.tw_syntax.specs.Programs.{AliasTree, DeclTree, AliasDecl, FunDecl, ProgramTree}
 use Rattle.tw_syntax.specs.Types.{WrittenTree, UnitType, UintType, BoolType, PairType, PtrType, NamedType, type_print}
-use Rattle.tw_resolve.specs.Declarations.{Name, declared_as, aliases_of, target_number, targets_in, with_target, decl_targets, targets_of}
+use Rattle.tw_resolve.specs.Declarations.{Name, declared_as, aliases_of, funs_of, target_number, targets_in, with_target, decl_targets, targets_of}
 use Rattle.tw_resolve.specs.AliasTypes.{IsNumbered, IsResolvedAlias}
 use Rattle.tw_resolve.specs.Demands.{first_broken}
 use Rattle.tw_resolve.specs.Denotes.{Scope, scope_of, names_declared}
 use Rattle.tw_resolve.specs.Names.{declared_rules, aliases_rules}
 use Rattle.tw_resolve.proofs.Demands.{Holds, EachHolds, none_broken-each}
-use Rattle.tw_resolve.proofs.Each.{each_first, each_rest}
+use Rattle.tw_resolve.proofs.Each.{each_first, each_rest, each-append}
 
 -- a position is found if some item passes
 keys-paired : {X : Type 0} (xs : List X) → keys_of (map (λ x. (x, x)) xs) ≡ xs
@@ -70,6 +70,28 @@ of_aliases P (FunDecl fun ∷ decls) all = of_aliases P decls (each_rest P (decl
 -- the targets in the aliases of a program have numbers
 pub aliases_numbered : (program : ProgramTree) → AllByRecursion (λ alias. AllByRecursion (IsNumbered (targets_of program)) (targets_in alias.body)) (aliases_of program.decls)
 aliases_numbered program = of_aliases (IsNumbered (targets_of program)) program.decls (all_numbered (flat_map decl_targets program.decls) [])
+
+-- what holds of all targets of declarations holds of those in functions
+of_funs : (P : WrittenTree → Type 0) (decls : List DeclTree) → AllByRecursion P (flat_map decl_targets decls)
+    → AllByRecursion (λ fun. AllByRecursion P (decl_targets (FunDecl fun))) (funs_of decls)
+of_funs P [] all = tt
+of_funs P (AliasDecl alias ∷ decls) all = of_funs P decls (each_rest P (targets_in alias.body) (flat_map decl_targets decls) all)
+of_funs P (FunDecl fun ∷ decls) all =
+    (each_first P (decl_targets (FunDecl fun)) (flat_map decl_targets decls) all, of_funs P decls (each_rest P (decl_targets (FunDecl fun)) (flat_map decl_targets decls) all))
+
+-- the targets in the functions of a program have numbers
+pub funs_numbered : (program : ProgramTree) → AllByRecursion (λ fun. AllByRecursion (IsNumbered (targets_of program)) (decl_targets (FunDecl fun))) (funs_of program.decls)
+funs_numbered program = of_funs (IsNumbered (targets_of program)) program.decls (all_numbered (flat_map decl_targets program.decls) [])
+
+-- what holds of all targets that are added holds of those in the list
+pub each_collected : (P : WrittenTree → Type 0) (more targets : List WrittenTree) → AllByRecursion P targets → AllByRecursion P more
+    → AllByRecursion P (fold with_target targets more)
+each_collected P [] targets all others = all
+each_collected P (to ∷ more) targets all others = each_collected P more (with_target targets to) (by (is_some (target_number targets to))) others.1
+  where
+    by : (k : Bool) → AllByRecursion P (if k then targets else targets ++ to ∷ [])
+    by true = all
+    by false = each-append P targets (to ∷ []) all (others.0, tt)
 
 -- the names in a type are declared if no rule of them is broken
 names_if_kept : (declared : Name → Option WrittenTree) (written : WrittenTree) → EachHolds (declared_rules declared written) → names_declared declared written ≡ true

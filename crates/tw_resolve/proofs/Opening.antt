@@ -5,7 +5,7 @@ use Rattle.tw_syntax.specs.Types.{WrittenTree}
 use Rattle.tw_resolve.specs.declared.alias_search.Search.{Search}
 use Rattle.tw_resolve.specs.declared.tables.Tables.{Tables}
 use Rattle.tw_resolve.specs.Declarations.{Name, declared_as}
-use Rattle.tw_resolve.specs.Denotes.{AreTypes}
+use Rattle.tw_resolve.specs.Denotes.{AreComplete, AreTypes}
 use Rattle.tw_resolve.specs.Entries.{aliases_in}
 use Rattle.tw_resolve.specs.Programs.{IsFinite}
 use Rattle.tw_resolve.specs.Tables.{setting_in}
@@ -55,6 +55,15 @@ pub found_types : (tables : Tables) (search : Search) → IsFinding tables searc
     → AreTypes (setting_in tables).scope (setting_in tables).types
 found_types tables search state done opened =
     are_types (setting_in tables).scope (setting_in tables).types state.denoted (all_typed tables search state done opened)
+
+pub found_complete : (tables : Tables) (search : Search) → IsFinding tables search → tasks_in search.tasks.items ≡ []
+    → ((name : Name) (body : WrittenTree) → (setting_in tables).scope.declared name ≡ Some body → names_in search.opened.set.keys name ≡ true)
+    → AreComplete (setting_in tables).scope (setting_in tables).types
+found_complete tables search state done opened name is = by ((setting_in tables).scope.declared name) refl is
+  where
+    by : (body : Option WrittenTree) → (setting_in tables).scope.declared name ≡ body → is_some body ≡ true → is_some ((setting_in tables).types name) ≡ true
+    by (Some body) declared some = (let has = all_typed tables search state done opened name body declared in ap is_some has.1)
+    by None declared some = absurd (cc some)
 
 pub found_finite : (tables : Tables) (search : Search) → IsFinding tables search → tasks_in search.tasks.items ≡ []
     → ((name : Name) (body : WrittenTree) → (setting_in tables).scope.declared name ≡ Some body → names_in search.opened.set.keys name ≡ true)

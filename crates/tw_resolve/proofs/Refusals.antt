@@ -11,7 +11,7 @@ use Rattle.tw_types.specs.Types.{Widths, Ty}
 use Rattle.tw_resolve.specs.Declarations.{Name, aliases_of}
 use Rattle.tw_resolve.specs.Demands.{first_broken}
 use Rattle.tw_resolve.specs.Denotes.{AreTypes, scope_of}
-use Rattle.tw_resolve.specs.Programs.{IsTyped, IsRefused, BreaksNames, BreaksFinite, BreaksTypes, IsFinite, IsFirstRecursive, type_rules, setting_of}
+use Rattle.tw_resolve.specs.Programs.{IsTyped, HasOneAnswer, IsRefused, BreaksNames, BreaksFinite, BreaksTypes, IsFinite, IsFirstRecursive, type_rules, setting_of}
 use Rattle.tw_resolve.proofs.Denoting.{one_table}
 
 -- only one alias is the first that contains itself
@@ -54,3 +54,9 @@ typed_not_refused typed (BreaksFinite name none first) = no_first _ _ name typed
 typed_not_refused {widths} {program} {types} typed (BreaksTypes other none finite are is) =
     let same : first_broken (type_rules (setting_of widths program types) (aliases_of program.decls)) ≡ first_broken (type_rules (setting_of widths program other) (aliases_of program.decls)) = same_broken widths program types other typed.are_types are in
     cc (typed.typed, is, same)
+
+pub one_answer : (widths : Widths) (program : ProgramTree) → HasOneAnswer widths program
+one_answer widths program = record {
+  one_refusal = λ refusal other is is2. one_refusal is is2;
+  not_both = λ refusal typed is. typed_not_refused typed.1 is;
+}

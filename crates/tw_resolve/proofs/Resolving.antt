@@ -8,11 +8,11 @@ use Rattle.tw_types.specs.Types.{Widths}
 use Rattle.tw_resolve.specs.AliasTypes.{IsResolvedAlias, AreResolvedIn, IsRecursionFaultIn, KeepsNames}
 use Rattle.tw_resolve.specs.Declarations.{aliases_of, declared_as}
 use Rattle.tw_resolve.specs.Demands.{first_broken, IsReported}
-use Rattle.tw_resolve.specs.Denotes.{AreTypes, Scope, scope_of}
+use Rattle.tw_resolve.specs.Denotes.{AreComplete, AreTypes, Scope, scope_of}
 use Rattle.tw_resolve.specs.Entries.{aliases_in, table_targets, funs_in, types_in}
 use Rattle.tw_resolve.specs.Names.{name_rules}
 use Rattle.tw_resolve.specs.Programs.{IsFinite, IsFirstRecursive, IsTyped, IsRefused, BreaksNames, BreaksFinite, BreaksTypes, IsRefusedWith, type_rules, setting_of}
-use Rattle.tw_resolve.specs.Tables.{AreTablesOf, setting_in}
+use Rattle.tw_resolve.specs.Tables.{AreTablesOf, AreTypedTablesOf, setting_in}
 use Rattle.tw_resolve.specs.declared.alias_table.AliasTable.{AliasTable}
 use Rattle.tw_resolve.specs.declared.fun_table.FunTable.{FunTable}
 use Rattle.tw_resolve.specs.declared.tables.Tables.{Tables}
@@ -64,6 +64,20 @@ module _ (program : ProgramTree) (widths : Widths) (tables : Tables) (are : AreT
     typed = sym (ap first_broken same_rules) ∙ rules;
   }
 
+  -- each declared name has a type
+  complete_in : AreComplete (setting_in tables).scope (setting_in tables).types → AreComplete (scope_of program) (types_in tables.types.table.entries)
+  complete_in complete = subst (λ (scope : Scope). AreComplete scope (types_in tables.types.table.entries)) same_scope complete
+
+  -- the tables are those of a well-typed program
+  pub typed_tables : first_broken (name_rules program) ≡ None → AreFinite → HasTypes → AreComplete (setting_in tables).scope (setting_in tables).types
+      → first_broken (type_rules (setting_in tables) (aliases_in tables.aliases.table.entries)) ≡ None
+      → AreTypedTablesOf program tables
+  typed_tables names finite types complete rules = record {
+    tables_of = record { aliases = are.aliases; targets = are.targets; funs = are.funs; at_widths = refl };
+    typed = subst (λ (w : Widths). IsTyped w program (types_in tables.types.table.entries)) (sym are.at_widths) (is_typed names finite types rules);
+    complete = complete_in complete;
+  }
+
   -- a rule of types is broken
   pub breaks_types : first_broken (name_rules program) ≡ None → AreFinite → HasTypes
       → (why : Fault) → IsReported (first_broken (type_rules (setting_in tables) (aliases_in tables.aliases.table.entries))) why
@@ -92,10 +106,6 @@ kept_tables program widths old new kept are = record {
 pub breaks_names : (widths : Widths) (program : ProgramTree) (why : Fault) → IsReported (first_broken (name_rules program)) why → IsRefusedWith widths program why
 breaks_names widths program (fault.Refused refusal) is = BreaksNames is
 breaks_names widths program fault.Memory is = tt
-
--- the tables of a program at some widths are so at their own
-pub at_own_widths : (program : ProgramTree) (widths : Widths) (tables : Tables) → AreTablesOf program widths tables → AreTablesOf program tables.types.widths tables
-at_own_widths program widths tables are = record { aliases = are.aliases; targets = are.targets; funs = are.funs; at_widths = refl }
 
 -- a call that ends with a fault that is the refusal
 pub refused_as : {A : Type 0} (widths : Widths) (program : ProgramTree) (why : Fault) (result : Result A Fault) → IsErrAnd result (λ other. other ≡ why)

@@ -39,6 +39,10 @@ pub data Denotes (scope : Scope) : WrittenTree → Ty → Type 0 where
 abbrev pub AreTypes : Scope → (Name → Option Ty) → Type 0
 AreTypes scope types = (at : Pos) (name : Name) (ty : Ty) → (types name ≡ Some ty) ↔ Denotes scope (NamedType at name) ty
 
+-- each declared name has a type
+abbrev pub AreComplete : Scope → (Name → Option Ty) → Type 0
+AreComplete scope types = (name : Name) → is_some (scope.declared name) ≡ true → is_some (types name) ≡ true
+
 -- whether a written type names an alias outside pointers
 abbrev pub names_outside_pointers : WrittenTree → Name → Bool
 names_outside_pointers (PairType at first second) name = names_outside_pointers first name || names_outside_pointers second name

@@ -1,6 +1,7 @@
 -- The types of paths, atoms, expressions and right sides, and their rules.
 use Rattle.std.specs.Prelude.{ℕ, zero, suc, ◌^◌, ◌-◌, Bool, true, false, not, ◌&&◌, ◌||◌, ◌==◌, ltb, List, [], ◌∷◌, ◌++◌, length, slice_get, Option, Some, None, is_some, option_and_then}
 use Rattle.std.proofs.Math.Bool.{beq}
+use Rattle.std.specs.Map.{lookup}
 use Rattle.std.specs.Str.{bytes_eq}
 use Rattle.tw_text.specs.declared.refusal.Rule.TheVariants as rule
 use Rattle.tw_syntax.specs.declared.term.OpKind.{OpKind}
@@ -13,9 +14,13 @@ use Rattle.tw_resolve.specs.Demands.{Demand, demand, demand_within}
 use Rattle.tw_resolve.specs.Declarations.{Name, is_one_of, number_of}
 use Rattle.tw_resolve.specs.Setting.{Setting, type_of, pointer_to, pair_of, size_rules, written_rules, fits}
 
--- the types of the variables that are declared so far
+-- the variables that are declared so far, with their types, in the order of their declarations
 abbrev pub Variables : Type 0
-Variables = Name → Option Ty
+Variables = List (Name × Ty)
+
+-- the type of a variable
+abbrev pub variable_type : Variables → Name → Option Ty
+variable_type variables name = lookup (bytes_eq name) variables
 
 -- the half of a pair that a step leads to
 abbrev pub half : ℕ → Ty → Option Ty
@@ -29,7 +34,7 @@ part [] ty = ty
 part (step ∷ steps) ty = part steps (option_and_then (half step) ty)
 
 abbrev pub path_type : Variables → PathTree → Option Ty
-path_type variables path = part path.steps (variables path.root.text)
+path_type variables path = part path.steps (variable_type variables path.root.text)
 
 abbrev pub atom_type : Setting → Variables → AtomTree → Option Ty
 atom_type setting variables (PlaceAtom at path) = path_type variables path
@@ -70,7 +75,7 @@ expr_type setting variables (OpExpr at operator x y) = Some (result_type operato
 -- a path begins at a variable, its steps lead to halves of pairs, and its part has the needed type
 abbrev pub path_rules : Variables → Option Ty → PathTree → List Demand
 path_rules variables needed path =
-    demand rule.UnknownName path.root.at (is_some (variables path.root.text))
+    demand rule.UnknownName path.root.at (is_some (variable_type variables path.root.text))
     ∷ demand rule.TypeMismatch path.root.at (is_some (path_type variables path) && fits needed (path_type variables path))
     ∷ []
 
@@ -142,9 +147,9 @@ next_params (param ∷ params) = params
 -- an argument is a variable, occurs once, and has the type of its parameter
 abbrev pub arg_rules : Variables → List Name → Option Ty → NameTree → List Demand
 arg_rules variables earlier needed arg =
-    demand rule.UnknownName arg.at (is_some (variables arg.text))
+    demand rule.UnknownName arg.at (is_some (variable_type variables arg.text))
     ∷ demand rule.RepeatedArgument arg.at (not (is_one_of arg.text earlier))
-    ∷ demand rule.TypeMismatch arg.at (fits needed (variables arg.text))
+    ∷ demand rule.TypeMismatch arg.at (fits needed (variable_type variables arg.text))
     ∷ []
 
 -- the rules of arguments, after these names

@@ -15,3 +15,4 @@ pub mod Variables
 pub mod Searches
 pub mod Reaching
 pub mod Checked
+pub mod Resolved

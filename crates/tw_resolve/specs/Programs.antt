@@ -1,7 +1,6 @@
 -- Well-typed programs, and the refusals of the others.
-use Rattle.std.specs.Prelude.{◌≡◌, ◌⊎◌, ℕ, suc, not, if◌then◌else◌, List, [], ◌∷◌, ◌++◌, map, flat_map, Option, Some, None, is_some}
+use Rattle.std.specs.Prelude.{◌≡◌, ◌⊎◌, ℕ, suc, not, if◌then◌else◌, List, [], ◌∷◌, ◌++◌, map, flat_map, fold, Option, Some, None, is_some}
 use Rattle.std.specs.List.{AllByRecursion}
-use Rattle.std.specs.Str.{bytes_eq}
 use Rattle.tw_text.specs.declared.refusal.Fault.{Fault}
 use Rattle.tw_text.specs.declared.refusal.Fault.TheVariants as fault
 use Rattle.tw_text.specs.declared.refusal.Refusal.{Refusal}
@@ -16,8 +15,8 @@ use Rattle.tw_resolve.specs.Declarations.{Name, is_one_of, aliases_of, funs_of, 
 use Rattle.tw_resolve.specs.Denotes.{scope_of, AreTypes, IsRecursive}
 use Rattle.tw_resolve.specs.Names.{name_rules}
 use Rattle.tw_resolve.specs.Setting.{Setting, type_of, size_rules, part_rules, written_rules, fits}
-use Rattle.tw_resolve.specs.Expressions.{Variables}
-use Rattle.tw_resolve.specs.Statements.{variables_after, stmt_rules}
+use Rattle.tw_resolve.specs.Expressions.{Variables, variable_type}
+use Rattle.tw_resolve.specs.Statements.{with_variable, assigned, variables_after, stmt_rules}
 
 -- an alias is not too deep and not too large, and neither are the targets in it
 abbrev pub alias_rules : Setting → AliasTree → List Demand
@@ -34,23 +33,33 @@ params_rules setting earlier [] = []
 params_rules setting earlier (param ∷ params) =
     param_rules setting earlier param ++ params_rules setting (earlier ++ param.name.text ∷ []) params
 
+-- the variables with a parameter
+abbrev pub with_param : Setting → Variables → ParamTree → Variables
+with_param setting variables param = with_variable variables param.name.text (type_of setting param.ty)
+
 -- the variables where the body begins: the parameters
 abbrev pub param_variables : Setting → List ParamTree → Variables
-param_variables setting [] name = None
-param_variables setting (param ∷ params) name =
-    if bytes_eq name param.name.text then type_of setting param.ty else param_variables setting params name
+param_variables setting params = fold (with_param setting) [] params
 
 -- the returned name is a variable, no parameter, and has the type of the result
 abbrev pub return_rules : Setting → FunTree → Variables → List Demand
 return_rules setting fun variables =
-    demand rule.UnknownName fun.returned.at (is_some (variables fun.returned.text))
+    demand rule.UnknownName fun.returned.at (is_some (variable_type variables fun.returned.text))
     ∷ demand rule.BadReturn fun.returned.at (not (is_one_of fun.returned.text (map (λ param. param.name.text) fun.params)))
-    ∷ demand rule.TypeMismatch fun.returned.at (fits (type_of setting fun.result) (variables fun.returned.text))
+    ∷ demand rule.TypeMismatch fun.returned.at (fits (type_of setting fun.result) (variable_type variables fun.returned.text))
     ∷ []
 
 -- the variables at the end of a function
 abbrev pub end_variables : Setting → FunTree → Variables
 end_variables setting fun = variables_after setting (param_variables setting fun.params) fun.body
+
+-- names with one more, if it is none of them
+abbrev pub with_new : List Name → Name → List Name
+with_new names name = if is_one_of name names then names else names ++ name ∷ []
+
+-- the names of the variables of a function: its parameters, and then the targets of its assignments, each where it first appears
+abbrev pub variable_names : FunTree → List Name
+variable_names fun = fold with_new (map (λ param. param.name.text) fun.params) (assigned fun.body)
 
 -- the rules of the function of this number, in text order
 abbrev pub fun_rules : Setting → ℕ → FunTree → List Demand
@@ -106,6 +115,11 @@ pub data IsRefused (widths : Widths) (program : ProgramTree) : Refusal → Type 
       → AreTypes (scope_of program) types
       → first_broken (type_rules (setting_of widths program types) (aliases_of program.decls)) ≡ Some refusal
       → IsRefused widths program refusal
+
+-- a program has at most one refusal, and none if it is well-typed
+pub record HasOneAnswer (widths : Widths) (program : ProgramTree) : Type 0 where
+  pub one_refusal : (refusal other : Refusal) → IsRefused widths program refusal → IsRefused widths program other → refusal ≡ other
+  pub not_both : (refusal : Refusal) → IsWellTyped widths program → IsRefused widths program refusal → ⊥
 
 -- a fault is the refusal of a program; memory may run out at any time
 abbrev pub IsRefusedWith : Widths → ProgramTree → Fault → Type 0

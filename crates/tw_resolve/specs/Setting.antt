@@ -1,5 +1,5 @@
 -- What the rules of types refer to, the types of written types, and the rules on their sizes and names.
-use Rattle.std.specs.Prelude.{ℕ, ◌^◌, ◌-◌, min, Bool, true, if◌then◌else◌, List, [], ◌∷◌, ◌++◌, slice_get, Option, Some, None, is_some, option_map, option_and_then}
+use Rattle.std.specs.Prelude.{◌≡◌, ℕ, ◌^◌, ◌-◌, min, Bool, true, if◌then◌else◌, List, [], ◌∷◌, ◌++◌, slice_get, Option, Some, None, is_some, option_map, option_and_then}
 use Rattle.tw_text.specs.declared.place.Pos.{Pos}
 use Rattle.tw_text.specs.declared.refusal.Rule.TheVariants as rule
 use Rattle.tw_syntax.specs.Programs.{FunTree}
@@ -34,6 +34,10 @@ type_of setting (BoolType at) = Some Boolean
 type_of setting (PairType at first second) = pair_of (type_of setting first) (type_of setting second)
 type_of setting (PtrType at to) = pointer_to setting.scope to
 type_of setting (NamedType at name) = setting.types name
+
+-- a written type has a type
+abbrev pub IsKnown : Setting → WrittenTree → Type 0
+IsKnown setting written = is_some (type_of setting written) ≡ true
 
 -- the type that the target of a pointer denotes
 abbrev pub pointee : Setting → Option Ty → Option Ty

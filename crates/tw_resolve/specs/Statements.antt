@@ -1,6 +1,5 @@
 -- The rules of types in statements, and the variables that statements declare.
 use Rattle.std.specs.Prelude.{ℕ, Bool, true, false, if◌then◌else◌, List, [], ◌∷◌, ◌++◌, Option, Some, None, is_some}
-use Rattle.std.specs.Str.{bytes_eq}
 use Rattle.tw_text.specs.declared.refusal.Rule.TheVariants as rule
 use Rattle.tw_syntax.specs.Names.{NameTree, PathTree}
 use Rattle.tw_syntax.specs.Terms.{RhsTree}
@@ -10,12 +9,12 @@ use Rattle.tw_types.specs.Types.{Ty, Boolean, Pointer}
 use Rattle.tw_resolve.specs.Demands.{Demand, demand}
 use Rattle.tw_resolve.specs.Declarations.{Name}
 use Rattle.tw_resolve.specs.Setting.{Setting, pointee, fits}
-use Rattle.tw_resolve.specs.Expressions.{Variables, path_type, path_rules, rhs_rules, rhs_type, if_there}
+use Rattle.tw_resolve.specs.Expressions.{Variables, variable_type, path_type, path_rules, rhs_rules, rhs_type, if_there}
 
--- the variables with one more; one that is there keeps its type
+-- the variables with one more, if its type is known; one that is there keeps its type
 abbrev pub with_variable : Variables → Name → Option Ty → Variables
-with_variable variables name ty other =
-    if is_some (variables name) then variables other else (if bytes_eq other name then ty else variables other)
+with_variable variables name None = variables
+with_variable variables name (Some ty) = if is_some (variable_type variables name) then variables else variables ++ (name, ty) ∷ []
 
 -- the variables after a statement, from those before it: every assignment declares its target, in text order
 abbrev pub variables_after : Setting → Variables → StmtTree → Variables
@@ -31,6 +30,20 @@ variables_after setting variables (WithStmt at setup work) = variables_after set
 variables_after setting variables (BlockStmt at body) = variables_after setting variables body
 variables_after setting variables (SkipStmt at) = variables
 
+-- the targets of the assignments in a statement, in text order
+abbrev pub assigned : StmtTree → List Name
+assigned Nothing = []
+assigned (Then first rest) = assigned first ++ assigned rest
+assigned (Else at stmts) = assigned stmts
+assigned (LetStmt at true target rhs) = target.text ∷ []
+assigned (LetStmt at false target rhs) = []
+assigned (SwapStmt at left right) = []
+assigned (MemSwapStmt at pointer value) = []
+assigned (IfStmt at cond first other) = assigned first ++ assigned other
+assigned (WithStmt at setup work) = assigned setup ++ assigned work
+assigned (BlockStmt at body) = assigned body
+assigned (SkipStmt at) = []
+
 -- whether a type is that of pointers
 abbrev pub is_pointer : Ty → Bool
 is_pointer (Pointer target) = true
@@ -39,14 +52,14 @@ is_pointer ty = false
 -- the target of an un-assignment is a variable
 abbrev pub target_rules : Variables → Bool → NameTree → List Demand
 target_rules variables true target = []
-target_rules variables false target = demand rule.UnknownName target.at (is_some (variables target.text)) ∷ []
+target_rules variables false target = demand rule.UnknownName target.at (is_some (variable_type variables target.text)) ∷ []
 
 -- the target, the right side, and then whether the target keeps its type
 abbrev pub let_rules : Setting → ℕ → FunTree → Variables → Bool → NameTree → RhsTree → List Demand
 let_rules setting number fun variables forward target rhs =
     target_rules variables forward target
     ++ (rhs_rules setting number fun variables rhs
-    ++ demand rule.TypeChanged target.at (fits (variables target.text) (rhs_type setting variables rhs)) ∷ [])
+    ++ demand rule.TypeChanged target.at (fits (variable_type variables target.text) (rhs_type setting variables rhs)) ∷ [])
 
 -- two paths have one type
 abbrev pub swap_rules : Variables → PathTree → PathTree → List Demand

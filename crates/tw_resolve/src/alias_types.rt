@@ -1,7 +1,7 @@
 //! The types of all aliases.
 ghost use Rattle.std.specs.Prelude.{◌≡◌, [], OnOk, IfErr};
 ghost use Rattle.std.specs.List.{AllByRecursion};
-ghost use Rattle.tw_resolve.specs.Denotes.{AreTypes};
+ghost use Rattle.tw_resolve.specs.Denotes.{AreComplete, AreTypes};
 ghost use Rattle.tw_resolve.specs.Entries.{aliases_in};
 ghost use Rattle.tw_resolve.specs.Programs.{IsFinite};
 ghost use Rattle.tw_resolve.specs.AliasTypes.{AreResolvedIn, IsRecursionFaultIn, KeepsNames};
@@ -24,6 +24,7 @@ pub fn declare_types<'a>(
     requires resolved { AreResolvedIn tables.old }
     ensures kept { KeepsNames tables.old tables.new }
     ensures types { OnOk result (AreTypes (setting_in tables.new).scope (setting_in tables.new).types) }
+    ensures complete { OnOk result (AreComplete (setting_in tables.new).scope (setting_in tables.new).types) }
     ensures finite { OnOk result (AllByRecursion (IsFinite (setting_in tables.new).scope.declared) (aliases_in tables.new.aliases.table.entries)) }
     ensures refused { IfErr result (IsRecursionFaultIn tables.old) }
 {

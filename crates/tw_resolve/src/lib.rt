@@ -18,10 +18,13 @@ mod names_so_far;
 mod paths;
 mod recursion;
 mod resolved;
+#[cfg(test)]
+mod resolved_tests;
 mod sizes;
 mod statements;
 mod tables;
 mod target_table;
+mod target_types;
 mod targets;
 #[cfg(test)]
 mod tests;

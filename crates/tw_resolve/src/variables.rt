@@ -1,6 +1,7 @@
 //! The variables of a function.
-ghost use Rattle.std.specs.Prelude.{◌≡◌, None, OnOk, option_map};
+ghost use Rattle.std.specs.Prelude.{◌≡◌, ◌<◌, [], Some, length, slice_get, OnOk, option_map};
 ghost use Rattle.tw_types.specs.FromCode.{ty_of};
+ghost use Rattle.tw_resolve.specs.Expressions.{variable_type};
 ghost use Rattle.tw_resolve.specs.Statements.{with_variable};
 ghost use Rattle.tw_resolve.specs.Variables.{variables_in};
 
@@ -17,16 +18,32 @@ pub struct Variables<'a> {
 impl<'a> Variables<'a> {
     /// No variables.
     pub fn new(alloc: Global) -> Variables<'a>
-        ensures { variables_in result.table.entries ≡ (λ _. None) }
+        ensures { variables_in result.table.entries ≡ [] }
     {
         Variables {
             table: IndexMap::new(alloc),
         }
     }
 
+    /// The number of variables.
+    pub fn len(&self) -> usize
+        ensures { result ≡ length (variables_in self.now.table.entries) }
+    {
+        self.table.len()
+    }
+
+    /// The name and the type of the variable of this number, from 0 on. There are more variables.
+    pub fn at(&self, number: usize) -> (&'a str, Ty<'a>)
+        requires { number < length (variables_in self.now.table.entries) }
+        ensures { slice_get (variables_in self.now.table.entries) number ≡ Some (result.0.now, ty_of result.1) }
+    {
+        let (name, ty) = self.table.get_index(number).unwrap();
+        (name, *ty)
+    }
+
     /// The type of a variable.
     pub fn get(&self, name: &str) -> Option<Ty<'a>>
-        ensures { option_map ty_of result ≡ variables_in self.now.table.entries name.now }
+        ensures { option_map ty_of result ≡ variable_type (variables_in self.now.table.entries) name.now }
     {
         self.table.get(name).copied()
     }

@@ -1,7 +1,7 @@
 use Rattle.tw_syntax.specs.Programs.{alias_tree}
 use Rattle.tw_resolve.specs.Entries.{aliases_in}
 use Rattle.tw_resolve.specs.Searches.{names_in}
-use Rattle.tw_resolve.proofs.Opening.{found_types, found_finite}
+use Rattle.tw_resolve.proofs.Opening.{found_types, found_complete, found_finite}
 use Rattle.tw_resolve.proofs.Running.{kept_twice, resolved_kept, opened_kept, opened_all}
 use Rattle.tw_resolve.proofs.TextOrder.{declared_at}
 use Rattle.tw_resolve.proofs.alias_types.declare_types.Goals as goal
@@ -26,6 +26,12 @@ pub returns-clause-types : goal.returns-clause-types
 returns-clause-types c =
     let l = c.loop-place in
     found_types l.tables l.search l.invariant.state l.invariant.done
+    (opened_all c.args.tables.now l.tables l.invariant.kept (names_in l.search.opened.set.keys) l.place _ c.len-place-end.ensures.len c.loop-place-test.false l.invariant.opened)
+
+pub returns-clause-complete : goal.returns-clause-complete
+returns-clause-complete c =
+    let l = c.loop-place in
+    found_complete l.tables l.search l.invariant.state l.invariant.done
     (opened_all c.args.tables.now l.tables l.invariant.kept (names_in l.search.opened.set.keys) l.place _ c.len-place-end.ensures.len c.loop-place-test.false l.invariant.opened)
 
 pub returns-clause-finite : goal.returns-clause-finite

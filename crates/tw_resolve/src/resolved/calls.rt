@@ -1,0 +1,89 @@
+//! The types of the targets, functions and variables of a well-typed program.
+ghost use Rattle.std.specs.Prelude.{◌≡◌, ◌<◌, Some, is_some, length, map, option_map, IfOk};
+ghost use Rattle.tw_syntax.specs.Names.{path_tree};
+ghost use Rattle.tw_syntax.specs.Programs.{program_tree};
+ghost use Rattle.tw_syntax.specs.Types.{written_tree};
+ghost use Rattle.tw_types.specs.FromCode.{ty_of};
+ghost use Rattle.tw_resolve.specs.Declarations.{funs_of, is_one_of};
+ghost use Rattle.tw_resolve.specs.Resolved.{param_type_at, params_at, path_type_at, resolved_setting, result_at, type_at, variable_names_at, variables_at};
+ghost use Rattle.tw_resolve.specs.Setting.{type_of};
+ghost use Rattle.tw_resolve.specs.Tables.{AreTargets};
+ghost use Rattle.tw_resolve.specs.Variables.{variables_in};
+
+use super::Resolved;
+use crate::calls::ty_of_written;
+use crate::paths::path_type;
+use crate::variables::Variables;
+use std::alloc::{AllocError, Global};
+use tw_syntax::{Path, Written};
+use tw_text::Arena;
+use tw_types::{Targets, Ty};
+
+impl<'a> Resolved<'a> {
+    /// The targets of pointers in the order in which they were first seen, each as it is written, and with its type.
+    pub fn targets(&self) -> &Targets<'a>
+        ensures { ∥ AreTargets (resolved_setting self.now) result.now ∥₁ }
+    {
+        &self.targets
+    }
+
+    /// The variables of the function of this number, with their types: its parameters, in order, and then the targets of its
+    /// assignments, in the order of their first assignments. There are more functions.
+    pub fn variables(&self, number: usize) -> &Variables<'a>
+        requires { number < length (funs_of (program_tree self.now.program.now).decls) }
+        ensures types { variables_at (resolved_setting self.now) number ≡ Some (variables_in result.now.table.entries) }
+        ensures names { variable_names_at (resolved_setting self.now) number ≡ Some (map (λ variable. variable.0) (variables_in result.now.table.entries)) }
+    {
+        &self.variables[number]
+    }
+
+    /// The type of a variable of the function of this number. `None` if it has no such variable. There are more functions.
+    pub fn type_of(&self, number: usize, name: &str) -> Option<Ty<'a>>
+        requires { number < length (funs_of (program_tree self.now.program.now).decls) }
+        ensures types { option_map ty_of result ≡ type_at (resolved_setting self.now) number name.now }
+        ensures there { option_map (is_one_of name.now) (variable_names_at (resolved_setting self.now) number) ≡ Some (is_some result) }
+    {
+        self.variables(number).get(name)
+    }
+
+    /// The type of a path from a variable of the function of this number. `None` if there is no such variable, or if a step leads
+    /// to no half of a pair. There are more functions.
+    pub fn type_of_path(&self, number: usize, path: &Path) -> Option<Ty<'a>>
+        requires { number < length (funs_of (program_tree self.now.program.now).decls) }
+        ensures { option_map ty_of result ≡ path_type_at (resolved_setting self.now) number (path_tree path.now) }
+    {
+        path_type(self.variables(number), path)
+    }
+
+    /// The type of the parameter at this place of the function of this number. There are more functions, and it has more parameters.
+    pub fn param_type(&self, number: usize, place: usize) -> Ty<'a>
+        requires function { number < length (funs_of (program_tree self.now.program.now).decls) }
+        requires param { place < length (params_at (resolved_setting self.now) number) }
+        ensures { param_type_at (resolved_setting self.now) number place ≡ Some (ty_of result) }
+    {
+        let (_, ty) = self.variables(number).at(place);
+        ty
+    }
+
+    /// The type of the result of the function of this number. There are more functions.
+    pub fn result(&self, number: usize) -> Ty<'a>
+        requires { number < length (funs_of (program_tree self.now.program.now).decls) }
+        ensures { result_at (resolved_setting self.now) number ≡ Some (ty_of result) }
+    {
+        let fun = self.fun_at(number);
+        self.type_of(number, fun.returned.text).unwrap()
+    }
+
+    /// The type that a written type denotes. `None` if it holds a name that is not declared, or a pointer to a type that is no target
+    /// of the program. Pairs are made in the arena. An error: out of memory.
+    pub fn type_written(
+        &self,
+        alloc: Global,
+        arena: &'a Arena,
+        written: &Written<'a>,
+    ) -> Result<Option<Ty<'a>>, AllocError>
+        ensures { IfOk result (λ found. option_map ty_of found ≡ type_of (resolved_setting self.now) (written_tree written.now)) }
+    {
+        ty_of_written(alloc, arena, &self.tables, written)
+    }
+}
