@@ -33,8 +33,16 @@ abbrev pub part : List ℕ → Option Ty → Option Ty
 part [] ty = ty
 part (step ∷ steps) ty = part steps (option_and_then (half step) ty)
 
+-- the types of names
+abbrev pub Types : Type 0
+Types = Name → Option Ty
+
+-- the type of a path, by the types of names, and by variables
+abbrev pub type_at_path : Types → PathTree → Option Ty
+type_at_path types path = part path.steps (types path.root.text)
+
 abbrev pub path_type : Variables → PathTree → Option Ty
-path_type variables path = part path.steps (variable_type variables path.root.text)
+path_type variables path = type_at_path (variable_type variables) path
 
 abbrev pub atom_type : Setting → Variables → AtomTree → Option Ty
 atom_type setting variables (PlaceAtom at path) = path_type variables path

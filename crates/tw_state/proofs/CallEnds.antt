@@ -11,8 +11,7 @@ use Rattle.tw_syntax.specs.Terms.{BoundTree, FixedBound, SameBound, LessBound, R
 use Rattle.tw_types.specs.Types.{Ty}
 use Rattle.tw_types.specs.Values.{Value, zero_value}
 use Rattle.tw_resolve.specs.Declarations.{is_one_of, number_of}
-use Rattle.tw_resolve.specs.Expressions.{Variables, fun_named}
-use Rattle.tw_resolve.specs.Programs.{end_variables}
+use Rattle.tw_resolve.specs.Expressions.{Types, fun_named}
 use Rattle.tw_resolve.specs.Setting.{Setting}
 use Rattle.tw_resolve.proofs.Declaring.{bytes_eq-sym}
 use Rattle.tw_check.specs.Names.{Names}
@@ -22,7 +21,7 @@ use Rattle.tw_check.specs.Right.{IsOperand, Assigns}
 use Rattle.tw_check.proofs.NameSets.{with_name-same, with_name-other}
 use Rattle.tw_check.proofs.Undoing.{right-reverse_of}
 use Rattle.tw_state.specs.States.{Name, State, IsWellFormed, with_value}
-use Rattle.tw_state.specs.Steps.{Activation, activation_of, live_names, Adds, running_bound, callee_bound, param_links, links, seen_by}
+use Rattle.tw_state.specs.Steps.{fun_types, Activation, activation_of, live_names, Adds, running_bound, callee_bound, param_links, links, seen_by}
 use Rattle.tw_state.specs.Semantics.{Runs, RunsCall, RunsUncall, RunsCallZero, RunsUncallZero}
 use Rattle.tw_state.specs.Stuck.{Unmet, StuckCall, StuckUncall, StuckUncallZero}
 use Rattle.tw_state.specs.Results.{IsTypedIn}
@@ -88,9 +87,9 @@ module _ (setting : Setting) where
 
   abbrev pub BodiesEnd : ℕ → ℕ → Type 0
   BodiesEnd j m = (name : Name) (fun : FunTree) → number_of setting.funs name ≡ Some j → fun_named setting name ≡ Some fun
-      → (x : State) → IsTypedIn setting (end_variables setting fun) x → IsWellFormed x → BodyEnds fun m x
+      → (x : State) → IsTypedIn setting (fun_types setting fun) x → IsWellFormed x → BodyEnds fun m x
 
-inner_params : (setting : Setting) (types : Variables) (params : List ParamTree) (args : List NameTree) → ArgsFit setting types params args → inner (param_links params args) ≡ map (λ param. param.name.text) params
+inner_params : (setting : Setting) (types : Types) (params : List ParamTree) (args : List NameTree) → ArgsFit setting types params args → inner (param_links params args) ≡ map (λ param. param.name.text) params
 inner_params setting types [] [] fit = refl
 inner_params setting types (param ∷ params) (arg ∷ args) fit = ap (λ names. param.name.text ∷ names) (inner_params setting types params args fit.1)
 inner_params setting types [] (arg ∷ args) fit = absurd fit
@@ -108,7 +107,7 @@ module _ (setting : Setting) (funs : FunsFit setting) (rights : FunsRight settin
     fun_fits : FunFits setting call.fun
     fun_fits = funs callee.text call.fun call.named
 
-    pub callee_typed : IsTypedIn setting (end_variables setting call.fun) (seen_by (links call.fun target args) x)
+    pub callee_typed : IsTypedIn setting (fun_types setting call.fun) (seen_by (links call.fun target args) x)
     callee_typed = typed_seen setting (links call.fun target args) (links_fit setting act.types call.fun target args ty fun_fits has call.result call.fit) typed
 
     -- the caller's state after a callee that ends with these live names
@@ -187,7 +186,7 @@ module _ (setting : Setting) (funs : FunsFit setting) (rights : FunsRight settin
 
         done : (n : ℕ) → callee_bound act.bound bound ≡ Some n → Ends setting (activation_of setting call.fun n) (reverse_of call.fun.body) (seen_by (links call.fun target args) x) → Ends setting act (LetStmt at false target (CallRhs callee bound args)) x
         done n is (HasEnd y runs) =
-            let at_start = lives setting funs rights (reverse_fits setting (end_variables setting call.fun) call.fun.body fun_fits.body) (right-reverse_of.0 (rights callee.text call.fun call.named)) runs at_end in
+            let at_start = lives setting funs rights (reverse_fits setting (fun_types setting call.fun) call.fun.body fun_fits.body) (right-reverse_of.0 (rights callee.text call.fun call.named)) runs at_end in
             let back = returns held after y (live_at_start call.fun) r.operands at_start off_start in
             HasEnd (record y { store = put_back (links call.fun target args) y.store x.store })
             (RunsUncall call.fun n call.named is

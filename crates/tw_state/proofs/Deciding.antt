@@ -10,7 +10,7 @@ use Rattle.tw_syntax.specs.Statements.{StmtTree, Nothing, Then, Else, LetStmt, S
 use Rattle.tw_types.specs.Types.{Ty}
 use Rattle.tw_types.specs.Values.{Value, UnitValue, Number, Truth, Address, PairValue, zero_value}
 use Rattle.tw_resolve.specs.Declarations.{is_one_of}
-use Rattle.tw_resolve.specs.Expressions.{Variables}
+use Rattle.tw_resolve.specs.Expressions.{Types}
 use Rattle.tw_resolve.specs.Setting.{Setting}
 use Rattle.tw_resolve.proofs.Declaring.{bytes_eq-sym}
 use Rattle.tw_check.specs.Names.{Names}
@@ -113,7 +113,7 @@ adds_without state name value is = record { unused = rw (name_test name) refl; a
     each n = by n (bytes_eq name n) refl
 
 -- a variable that a typed statement makes live has a type
-pub becomes_typed : (setting : Setting) (types : Variables) (forward : Bool) (s : StmtTree) → StmtFits setting types s → (live : Names) (name : Name) → live name ≡ false → live_after forward s live name ≡ true → (ty : Ty) × (types name ≡ Some ty)
+pub becomes_typed : (setting : Setting) (types : Types) (forward : Bool) (s : StmtTree) → StmtFits setting types s → (live : Names) (name : Name) → live name ≡ false → live_after forward s live name ≡ true → (ty : Ty) × (types name ≡ Some ty)
 becomes_typed setting types forward Nothing fits live name dead is = contradiction is dead
 becomes_typed setting types true (Then first rest) fits live name dead is =
     by_test (live_after true first live name) (becomes_typed setting types true first fits.0 live name dead)
@@ -145,19 +145,19 @@ filled (Some ty) None = Some (zero_value ty)
 filled None None = None
 
 -- the store after padding, with these live names
-abbrev padded_store : Variables → Store → Names → Store
+abbrev padded_store : Types → Store → Names → Store
 padded_store types store live name = if live name then filled (types name) (store name) else None
 
 -- a name that is removed is zero
-abbrev IsPaddable : Variables → Store → Names → Name → Type 0
+abbrev IsPaddable : Types → Store → Names → Name → Type 0
 IsPaddable types store live name = live name ≡ false → (value : Value) → store name ≡ Some value → (ty : Ty) → types name ≡ Some ty → value ≡ zero_value ty
 
 -- all names that statements remove are zero, or one is not
-pub data Padding (setting : Setting) (types : Variables) (stmts : StmtTree) (old : State) : Type 0 where
+pub data Padding (setting : Setting) (types : Types) (stmts : StmtTree) (old : State) : Type 0 where
   CanPad : (new : State) → Pads types stmts old new → ((name : Name) → live_after true stmts (live_names old.store) name ≡ true → is_some (old.store name) ≡ true → new.store name ≡ old.store name) → Padding setting types stmts old
   CannotPad : LacksPad types stmts old → Padding setting types stmts old
 
-module _ (setting : Setting) (types : Variables) (stmts : StmtTree) (old : State) (fits : StmtFits setting types stmts) (typed : StoreFits setting.widths types old.store) where
+module _ (setting : Setting) (types : Types) (stmts : StmtTree) (old : State) (fits : StmtFits setting types stmts) (typed : StoreFits setting.widths types old.store) where
   abbrev pub after_stmts : Names
   after_stmts = live_after true stmts (live_names old.store)
 

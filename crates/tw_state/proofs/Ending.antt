@@ -9,7 +9,7 @@ use Rattle.tw_syntax.specs.Terms.{ExprRhs, AllocRhs, ExprTree}
 use Rattle.tw_syntax.specs.Types.{WrittenTree}
 use Rattle.tw_types.specs.Types.{Widths, Ty, Boolean, Pointer, block_count}
 use Rattle.tw_types.specs.Values.{Value, UnitValue, Number, Truth, Address, PairValue, HasType, zero_value}
-use Rattle.tw_resolve.specs.Expressions.{Variables, path_type}
+use Rattle.tw_resolve.specs.Expressions.{Types, type_at_path}
 use Rattle.tw_resolve.specs.Setting.{Setting}
 use Rattle.tw_check.specs.Names.{Names}
 use Rattle.tw_check.specs.Liveness.{expr_names, live_after}
@@ -49,7 +49,7 @@ pub dead_value : (store : Store) (live : Names) (name : Name) → live_names sto
 dead_value store live name same is =
     by_option (store name) (λ none. none) (λ value found. contradiction {test = true} refl (sym (ap is_some found) ∙ ap (λ (l : Names). l name) same ∙ is))
 
-pub path_there : (widths : Widths) (types : Variables) (store : Store) → StoreFits widths types store → (path : PathTree) (ty : Ty) → path_type types path ≡ Some ty → (whole : Value) → store path.root.text ≡ Some whole → ValueThere widths (value_at store path) ty
+pub path_there : (widths : Widths) (types : Types) (store : Store) → StoreFits widths types store → (path : PathTree) (ty : Ty) → type_at_path types path ≡ Some ty → (whole : Value) → store path.root.text ≡ Some whole → ValueThere widths (value_at store path) ty
 path_there widths types store fits path ty typed whole is =
     let p = path_typed widths types store fits path ty whole is typed in
     record { value = p.part; is = ap (option_and_then (part_of path.steps)) is ∙ p.is; typed = p.typed }
@@ -152,7 +152,7 @@ module _ (setting : Setting) (act : Activation) where
 
   module _ (x : State) (typed : IsTypedIn setting act.types x) where
     -- the condition of an `if`
-    pub cond_ends : {P : Type 0} (cond : PathTree) (whole : Value) → path_type act.types cond ≡ Some Boolean → x.store cond.root.text ≡ Some whole
+    pub cond_ends : {P : Type 0} (cond : PathTree) (whole : Value) → type_at_path act.types cond ≡ Some Boolean → x.store cond.root.text ≡ Some whole
         → (value_at x.store cond ≡ Some (Truth true) → P) → (value_at x.store cond ≡ Some (Truth false) → P) → P
     cond_ends cond whole fits is holds fails =
         let v = path_there setting.widths act.types x.store typed.names cond Boolean fits whole is in
@@ -177,7 +177,7 @@ module _ (setting : Setting) (act : Activation) where
         (λ differ. IsStuck Unmet at (StuckUnlet {bare = record x { store = without x.store target.text }} held e.value adds e.is differ))
 
     -- an exchange of two parts
-    pub swap_ends : {at : Pos} {left right : PathTree} (ty : Ty) (p q : Value) → path_type act.types left ≡ Some ty → path_type act.types right ≡ Some ty → x.store left.root.text ≡ Some p → x.store right.root.text ≡ Some q → overlap left right ≡ false
+    pub swap_ends : {at : Pos} {left right : PathTree} (ty : Ty) (p q : Value) → type_at_path act.types left ≡ Some ty → type_at_path act.types right ≡ Some ty → x.store left.root.text ≡ Some p → x.store right.root.text ≡ Some q → overlap left right ≡ false
         → Ends setting act (SwapStmt at left right) x
     swap_ends {at} {left} {right} ty p q l r is_p is_q apart =
         let v = path_there setting.widths act.types x.store typed.names left ty l p is_p in
@@ -186,7 +186,7 @@ module _ (setting : Setting) (act : Activation) where
         (RunsSwap (record { x = v.value; y = w.value; at_left = v.is; at_right = w.is; apart = apart; after = refl }))
 
     -- an exchange with a block
-    pub memory_ends : {at : Pos} {pointer place : PathTree} (target : ℕ) (ty : Ty) (p q : Value) → path_type act.types pointer ≡ Some (Pointer target) → path_type act.types place ≡ Some ty → x.store pointer.root.text ≡ Some p → x.store place.root.text ≡ Some q → overlap pointer place ≡ false
+    pub memory_ends : {at : Pos} {pointer place : PathTree} (target : ℕ) (ty : Ty) (p q : Value) → type_at_path act.types pointer ≡ Some (Pointer target) → type_at_path act.types place ≡ Some ty → x.store pointer.root.text ≡ Some p → x.store place.root.text ≡ Some q → overlap pointer place ≡ false
         → Ends setting act (MemSwapStmt at pointer place) x
     memory_ends {at} {pointer} {place} target ty p q l r is_p is_q apart =
         let v = path_there setting.widths act.types x.store typed.names pointer (Pointer target) l p is_p in

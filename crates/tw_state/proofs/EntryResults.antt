@@ -7,7 +7,6 @@ use Rattle.tw_types.specs.Values.{Value, zero_value}
 use Rattle.tw_types.proofs.Zeros.{zero_value-typed}
 use Rattle.tw_resolve.specs.Declarations.{number_of}
 use Rattle.tw_resolve.specs.Expressions.{fun_named}
-use Rattle.tw_resolve.specs.Programs.{end_variables}
 use Rattle.tw_resolve.specs.Setting.{Setting}
 use Rattle.tw_check.specs.Names.{Names, with_name}
 use Rattle.tw_check.specs.Liveness.{live_at_start, live_at_end}
@@ -17,7 +16,7 @@ use Rattle.tw_check.proofs.Reversal.{reverse_of-reverse_of}
 use Rattle.tw_check.proofs.Undoing.{right-reverse_of}
 use Rattle.tw_state.specs.States.{Name, State, IsWellFormed, with_value}
 use Rattle.tw_state.specs.Evaluation.{zero_of}
-use Rattle.tw_state.specs.Steps.{activation_of, Adds, running_bound}
+use Rattle.tw_state.specs.Steps.{fun_types, activation_of, Adds, running_bound}
 use Rattle.tw_state.specs.Semantics.{Runs}
 use Rattle.tw_state.specs.Stuck.{Reason, Unmet, Sticks}
 use Rattle.tw_state.specs.Results.{IsTypedAt, RunsEntry, RunsBody, RunsNoBody, HasResult, directed, SticksEntry, SticksBody, SticksNoBody}
@@ -159,7 +158,7 @@ module _ (setting : Setting) (sound : IsSound setting) (fun : FunTree) (is : IsF
 
       ended : (n : ℕ) → running_bound bound ≡ Some n → Ends setting (activation_of setting fun n) (reverse_of fun.body) y → ((x : State) × HasResult setting fun bound x y) ⊎ ((reason : Reason) × (place : Pos) × SticksEntry setting fun bound false y reason place)
       ended n running (HasEnd x runs) =
-          let back = reverse_fits setting (end_variables setting fun) fun.body fits.body in
+          let back = reverse_fits setting (fun_types setting fun) fun.body fits.body in
           inl (
             x,
             record {

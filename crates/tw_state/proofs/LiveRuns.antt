@@ -7,8 +7,7 @@ use Rattle.tw_syntax.specs.Programs.{ParamTree, FunTree}
 use Rattle.tw_syntax.specs.Statements.{StmtTree}
 use Rattle.tw_types.specs.Values.{Value}
 use Rattle.tw_resolve.specs.Declarations.{is_one_of}
-use Rattle.tw_resolve.specs.Expressions.{Variables, fun_named}
-use Rattle.tw_resolve.specs.Programs.{end_variables}
+use Rattle.tw_resolve.specs.Expressions.{Types, fun_named}
 use Rattle.tw_resolve.specs.Setting.{Setting}
 use Rattle.tw_resolve.proofs.Declaring.{bytes_eq-sym}
 use Rattle.tw_check.specs.Names.{Names, with_name}
@@ -19,7 +18,7 @@ use Rattle.tw_check.proofs.Ends.{right_ends}
 use Rattle.tw_check.proofs.Undoing.{right-reverse_of}
 use Rattle.tw_state.specs.States.{Name, Store, State}
 use Rattle.tw_state.specs.Parts.{with_part, with_value_at}
-use Rattle.tw_state.specs.Steps.{Activation, live_names, Adds, param_links, links, seen, KeepsOthers}
+use Rattle.tw_state.specs.Steps.{fun_types, Activation, live_names, Adds, param_links, links, seen, KeepsOthers}
 use Rattle.tw_state.specs.Semantics.{Runs, RunsNothing, RunsSkip, RunsThen, RunsBlock, RunsLet, RunsUnlet, RunsSwap, RunsMemSwapNull, RunsMemSwap, RunsIf, RunsIfElse, RunsIfNot, RunsWith, RunsCall, RunsUncall, RunsCallZero, RunsUncallZero, RunsAlloc, RunsAllocNone, RunsFree, RunsFreeNone}
 use Rattle.tw_state.proofs.Basics.{same_some, by_test, same_name, name_test, contradiction}
 use Rattle.tw_state.proofs.SingleSteps.{added, added_others}
@@ -55,7 +54,7 @@ live_put store path value = fun_ext (λ name. by (bytes_eq path.root.text name) 
 abbrev names_of_params : List ParamTree → List Name
 names_of_params params = map (λ param. param.name.text) params
 
-module _ (setting : Setting) (types : Variables) where
+module _ (setting : Setting) (types : Types) where
   -- the names of the caller that a call shares, besides the target, are the arguments
   pub outer_params : (params : List ParamTree) (args : List NameTree) → ArgsFit setting types params args → outer (param_links params args) ≡ texts args
   outer_params [] [] fit = refl
@@ -119,7 +118,7 @@ operands_live held bare target written store [] agree each = tt
 operands_live held bare target written store (name ∷ names) agree each =
     (agree name.text each.0.other ∙ each.0.live, operands_live held bare target written store names agree each.1)
 
-module _ (setting : Setting) (types : Variables) (fun : FunTree) (target : NameTree) (args : List NameTree) (fit : ArgsFit setting types fun.params args) (different : AreDifferent (fun.returned.text ∷ param_names fun)) where
+module _ (setting : Setting) (types : Types) (fun : FunTree) (target : NameTree) (args : List NameTree) (fit : ArgsFit setting types fun.params args) (different : AreDifferent (fun.returned.text ∷ param_names fun)) where
   abbrev pub shared : List (Name × Name)
   shared = links fun target args
 
@@ -200,7 +199,7 @@ abbrev pub FunsRight : Setting → Type 0
 FunsRight setting = (name : Name) (fun : FunTree) → fun_named setting name ≡ Some fun → IsRight fun
 
 module _ (setting : Setting) (funs : FunsFit setting) (rights : FunsRight setting) where
-  same_args : (types : Variables) {fun other : FunTree} (args : List NameTree) → other ≡ fun → ArgsFit setting types other.params args → ArgsFit setting types fun.params args
+  same_args : (types : Types) {fun other : FunTree} (args : List NameTree) → other ≡ fun → ArgsFit setting types other.params args → ArgsFit setting types fun.params args
   same_args types {fun} {other} args same fit = subst (λ (f : FunTree). ArgsFit setting types f.params args) same fit
 
   -- the live names after a right statement are those with which it ends
@@ -235,7 +234,7 @@ module _ (setting : Setting) (funs : FunsFit setting) (rights : FunsRight settin
       let arg_live = operands_live held bare target true old.store args (λ name differ. ap (λ (l : Names). l name) (live ∙ r.after) ∙ with_name-other bare target.text name true differ) r.operands in
       let present = ap (λ (l : Names). l target.text) (live ∙ r.after) ∙ with_name-same bare target.text true in
       live_uncall setting act.types fun target args fit fun_fits.different held bare true old new r.operands r.after r.dead absent keeps live
-      (lives (reverse_fits setting (end_variables setting fun) fun.body fun_fits.body) (right-reverse_of.0 (rights callee.text fun named)) body
+      (lives (reverse_fits setting (fun_types setting fun) fun.body fun_fits.body) (right-reverse_of.0 (rights callee.text fun named)) body
       (seen_at_end setting act.types fun target args fit fun_fits.different old.store present arg_live))
   lives fits (RightUnlet r) (RunsUncallZero fun v named bound cleared a) live = live_removed r.dead (live ∙ r.after) a
   lives fits (RightLet {target = target} r) (RunsAlloc block t a) live =

@@ -7,7 +7,7 @@ use Rattle.std.proofs.lemmas.List.FromFn.{length-map-range_with_len}
 use Rattle.tw_syntax.specs.Programs.{FunTree}
 use Rattle.tw_types.specs.Types.{Widths, Ty, UnitTy, Word, Boolean, Pointer, PairTy, block_count}
 use Rattle.tw_types.specs.Values.{Value, UnitValue, Number, Truth, Address, PairValue, HasType}
-use Rattle.tw_resolve.specs.Expressions.{Variables}
+use Rattle.tw_resolve.specs.Expressions.{Types}
 use Rattle.tw_resolve.specs.Setting.{Setting, type_of}
 use Rattle.tw_check.specs.Names.{Names}
 use Rattle.tw_state.specs.States.{Cell, Free, Live, State, cell_at}
@@ -118,7 +118,7 @@ module _ (setting : Setting) (pi : Permutation (block_count setting.widths)) whe
   fits_renamed (Some ty) (Some value) fits = value_typed setting.widths pi.to pi.to_within value ty fits
   fits_renamed None (Some value) fits = absurd fits
 
-  typed_renamed : {types : Variables} {state : State} → IsTypedIn setting types state → IsTypedIn setting types (renamed pi state)
+  typed_renamed : {types : Types} {state : State} → IsTypedIn setting types state → IsTypedIn setting types (renamed pi state)
   typed_renamed {types} {state} typed = record {
     head_within = pi.to_within state.head typed.head_within;
     all_blocks = length-map-range_with_len (cell_renamed_to pi state.cells) 1 (length state.cells) ∙ typed.all_blocks;
@@ -168,7 +168,7 @@ module _ (setting : Setting) (pi : Permutation (block_count setting.widths)) whe
           ∙ ap Some (cell_same (extended pi).to pi.to to_same (unwrap_or (cell_at state.cells (pi.from b)) (Free 0)) (found_typed state all (pi.from b)))
           ∙ sym (cell_at-range (cell_renamed_to pi state.cells) (length state.cells) b above within)
 
-  state_same : {types : Variables} (state : State) → IsTypedIn setting types state → renamed (extended pi) state ≡ renamed pi state
+  state_same : {types : Types} (state : State) → IsTypedIn setting types state → renamed (extended pi) state ≡ renamed pi state
   state_same {types} state typed =
       same_state (to_same state.head typed.head_within) (cells_same state typed.all_blocks typed.each_cell)
       (fun_ext (λ name. store_same (types name) (state.store name) (typed.names name)))

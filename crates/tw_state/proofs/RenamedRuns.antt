@@ -5,7 +5,7 @@ use Rattle.tw_syntax.specs.Statements.{StmtTree}
 use Rattle.tw_syntax.specs.Types.{WrittenTree}
 use Rattle.tw_types.specs.Types.{Ty, Pointer}
 use Rattle.tw_types.specs.Values.{Value, Truth, Address, zero_value}
-use Rattle.tw_resolve.specs.Expressions.{Variables}
+use Rattle.tw_resolve.specs.Expressions.{Types}
 use Rattle.tw_resolve.specs.Setting.{Setting, type_of, pointee}
 use Rattle.tw_check.specs.Liveness.{live_after}
 use Rattle.tw_check.specs.Reverse.{reverse_of}
@@ -82,7 +82,7 @@ module _ {blocks : ℕ} (pi : Permutation blocks) where
   padded_renamed None None (Some y) p = p
   padded_renamed None (Some x) None p = p
 
-  pads_renamed : {types : Variables} {stmts : StmtTree} {old new : State} → Pads types stmts old new → Pads types stmts (renamed pi old) (renamed pi new)
+  pads_renamed : {types : Types} {stmts : StmtTree} {old new : State} → Pads types stmts old new → Pads types stmts (renamed pi old) (renamed pi new)
   pads_renamed {types} {stmts} {old} {new} a = record {
     head = ap pi.to a.head;
     cells = ap (renamed_cells pi) a.cells;
@@ -92,7 +92,7 @@ module _ {blocks : ℕ} (pi : Permutation blocks) where
   }
 
   module _ (total : IsTotal pi) where
-    memory_renamed : {types : Variables} {pointer place : PathTree} {old new : State} → length old.cells ≡ blocks → SwapsMemory types pointer place old new → SwapsMemory types pointer place (renamed pi old) (renamed pi new)
+    memory_renamed : {types : Types} {pointer place : PathTree} {old new : State} → length old.cells ≡ blocks → SwapsMemory types pointer place old new → SwapsMemory types pointer place (renamed pi old) (renamed pi new)
     memory_renamed {types} {pointer} {place} {old} {new} len a = record {
       block = pi.to a.block;
       target = a.target;

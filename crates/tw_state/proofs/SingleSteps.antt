@@ -7,7 +7,7 @@ use Rattle.tw_syntax.specs.Statements.{StmtTree}
 use Rattle.tw_syntax.specs.Types.{WrittenTree}
 use Rattle.tw_types.specs.Types.{Ty, Pointer}
 use Rattle.tw_types.specs.Values.{Value, Address}
-use Rattle.tw_resolve.specs.Expressions.{Variables}
+use Rattle.tw_resolve.specs.Expressions.{Types}
 use Rattle.tw_resolve.specs.Setting.{Setting}
 use Rattle.tw_check.specs.Names.{Names}
 use Rattle.tw_check.specs.Reverse.{reverse_of}
@@ -112,7 +112,7 @@ swaps_back {left} {right} {old} {new} a =
     }
 
 -- a value exchanged with that of a block
-pub memory_determined : {types : Variables} {pointer place : PathTree} {old new other : State} → SwapsMemory types pointer place old new → SwapsMemory types pointer place old other → new ≡ other
+pub memory_determined : {types : Types} {pointer place : PathTree} {old new other : State} → SwapsMemory types pointer place old new → SwapsMemory types pointer place old other → new ≡ other
 memory_determined {types} {pointer} {place} {old} {new} {other} a b =
     let block = same_address (same_some a.points b.points) in
     let target = same_target (same_some a.of_target b.of_target) in
@@ -123,7 +123,7 @@ memory_determined {types} {pointer} {place} {old} {new} {other} a b =
     ∙ ap₂ (λ u v. record old { cells = with_cell old.cells b.block (Live b.target u); store = with_value_at old.store place v }) y x
     ∙ sym b.after
 
-pub memory_back : {types : Variables} {pointer place : PathTree} {old new : State} → SwapsMemory types pointer place old new → SwapsMemory types pointer place new old
+pub memory_back : {types : Types} {pointer place : PathTree} {old new : State} → SwapsMemory types pointer place old new → SwapsMemory types pointer place new old
 memory_back {types} {pointer} {place} {old} {new} a =
     let store_is : new.store ≡ with_value_at old.store place a.x = ap (λ (s : State). s.store) a.after in
     let cells_are : new.cells ≡ with_cell old.cells a.block (Live a.target a.y) = ap (λ (s : State). s.cells) a.after in
@@ -185,7 +185,7 @@ padded_once None None (Some x) (Some y) live p q = absurd p
 padded_once ty o None (Some y) live p q = contradiction {test = true} refl (sym live)
 padded_once ty o (Some x) None live p q = contradiction {test = true} refl live
 
-pub pads_determined : {types : Variables} {stmts : StmtTree} {old new other : State} → Pads types stmts old new → Pads types stmts old other → new ≡ other
+pub pads_determined : {types : Types} {stmts : StmtTree} {old new other : State} → Pads types stmts old new → Pads types stmts old other → new ≡ other
 pads_determined {types} {stmts} {old} {new} {other} a b =
     same_state (sym a.head ∙ b.head) (sym a.cells ∙ b.cells)
     (fun_ext (λ name. padded_once (types name) (old.store name) (new.store name) (other.store name) (ap (λ (live : Names). live name) (a.after ∙ sym b.after)) (a.padded name) (b.padded name)))
@@ -198,7 +198,7 @@ padded_back (Some ty) (Some x) None p = p
 padded_back None None (Some y) p = absurd p
 padded_back None (Some x) None p = absurd p
 
-pub pads_back : {types : Variables} {stmts : StmtTree} {old new : State} → Pads types stmts old new → Pads types (reverse_of stmts) new old
+pub pads_back : {types : Types} {stmts : StmtTree} {old new : State} → Pads types stmts old new → Pads types (reverse_of stmts) new old
 pads_back {types} {stmts} {old} {new} a = record {
   head = sym a.head;
   cells = sym a.cells;

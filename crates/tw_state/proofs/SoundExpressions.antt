@@ -13,7 +13,7 @@ use Rattle.tw_types.specs.Types.{Ty, UnitTy, Word, Boolean, Pointer, PairTy, sam
 use Rattle.tw_resolve.specs.AliasTypes.{IsNumbered, IsResolved}
 use Rattle.tw_resolve.specs.Declarations.{Name, target_number, targets_in, atom_targets, expr_targets}
 use Rattle.tw_resolve.specs.Denotes.{names_declared}
-use Rattle.tw_resolve.specs.Expressions.{Variables, part, path_type, atom_type, result_type, left_type, right_type, expr_type, path_rules, atom_rules, expr_rules}
+use Rattle.tw_resolve.specs.Expressions.{Types, Variables, variable_type, part, type_at_path, path_type, atom_type, result_type, left_type, right_type, expr_type, path_rules, atom_rules, expr_rules}
 use Rattle.tw_resolve.specs.Setting.{Setting, type_of, pointer_to, pair_of, size_rules, part_rules, written_rules, fits}
 use Rattle.tw_resolve.proofs.Demands.{Holds, EachHolds}
 use Rattle.tw_resolve.proofs.Each.{each_first, each_rest}
@@ -59,12 +59,12 @@ is_there (Some x) is = (x, refl)
 is_there None is = contradiction {test = true} refl (sym is)
 
 -- variables that keep their types to the end of the function
-abbrev pub Grows : Variables → Variables → Type 0
-Grows variables types = (name : Name) (ty : Ty) → variables name ≡ Some ty → types name ≡ Some ty
+abbrev pub Grows : Variables → Types → Type 0
+Grows variables types = (name : Name) (ty : Ty) → variable_type variables name ≡ Some ty → types name ≡ Some ty
 
-pub path_grows : (variables types : Variables) → Grows variables types → (path : PathTree) (ty : Ty) → path_type variables path ≡ Some ty → path_type types path ≡ Some ty
+pub path_grows : (variables : Variables) (types : Types) → Grows variables types → (path : PathTree) (ty : Ty) → path_type variables path ≡ Some ty → type_at_path types path ≡ Some ty
 path_grows variables types grows path ty is =
-    by_option (variables path.root.text) (λ none. part-none path.steps (ap (part path.steps) (sym none) ∙ is))
+    by_option (variable_type variables path.root.text) (λ none. part-none path.steps (ap (part path.steps) (sym none) ∙ is))
     (λ root found. ap (part path.steps) (grows path.root.text root found ∙ sym found) ∙ is)
 
 -- what is known of the types that a program mentions
@@ -113,17 +113,17 @@ module _ (setting : Setting) (types_known : TypesKnown setting) where
   part_known (suc (suc zero) ∷ steps) Boolean goal known is = part-none steps is
   part_known (suc (suc zero) ∷ steps) (Pointer target) goal known is = part-none steps is
 
-  module _ (variables types : Variables) (grows : Grows variables types) (vars_known : (name : Name) (ty : Ty) → variables name ≡ Some ty → IsKnown setting ty) where
+  module _ (variables : Variables) (types : Types) (grows : Grows variables types) (vars_known : (name : Name) (ty : Ty) → variable_type variables name ≡ Some ty → IsKnown setting ty) where
     pub path_known : (path : PathTree) (ty : Ty) → path_type variables path ≡ Some ty → IsKnown setting ty
     path_known path ty is =
-        by_option (variables path.root.text) (λ none. part-none path.steps (ap (part path.steps) (sym none) ∙ is))
+        by_option (variable_type variables path.root.text) (λ none. part-none path.steps (ap (part path.steps) (sym none) ∙ is))
         (λ root found. part_known path.steps root ty (vars_known path.root.text root found) (ap (part path.steps) (sym found) ∙ is))
 
     -- a path that keeps the rules has a type
     pub record PathSound (needed : Option Ty) (path : PathTree) : Type 0 where
       pub ty : Ty
       pub is : path_type variables path ≡ Some ty
-      pub at_end : path_type types path ≡ Some ty
+      pub at_end : type_at_path types path ≡ Some ty
       pub fitting : fits needed (Some ty) ≡ true
       pub known : IsKnown setting ty
 

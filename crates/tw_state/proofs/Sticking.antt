@@ -9,7 +9,7 @@ use Rattle.tw_syntax.specs.Types.{WrittenTree}
 use Rattle.tw_types.specs.Types.{Ty}
 use Rattle.tw_types.specs.Values.{Value, Address, zero_value}
 use Rattle.tw_resolve.specs.Declarations.{target_number}
-use Rattle.tw_resolve.specs.Expressions.{Variables}
+use Rattle.tw_resolve.specs.Expressions.{Types}
 use Rattle.tw_resolve.specs.Setting.{Setting}
 use Rattle.tw_check.specs.Names.{Names}
 use Rattle.tw_check.specs.Reverse.{reverse_of}
@@ -25,7 +25,7 @@ use Rattle.tw_state.proofs.Calls.{HaveDifferentNames, same_call, same_uncall}
 use Rattle.tw_state.proofs.Determined.{true_and_false, from_same, determined}
 
 -- padded names are zero where they are removed
-not_padded : {types : Variables} {stmts : StmtTree} {old new : State} → LacksPad types stmts old → Pads types stmts old new → ⊥
+not_padded : {types : Types} {stmts : StmtTree} {old new : State} → LacksPad types stmts old → Pads types stmts old new → ⊥
 not_padded {types} {stmts} {old} {new} lacks pads =
     by (types lacks.name) (old.store lacks.name) (new.store lacks.name) lacks.typed lacks.is (ap (λ (live : Names). live lacks.name) pads.after ∙ lacks.removed) (pads.padded lacks.name)
   where

@@ -6,7 +6,7 @@ use Rattle.tw_syntax.specs.Names.{NameTree, PathTree}
 use Rattle.tw_syntax.specs.Statements.{StmtTree, Nothing, Then, Else, LetStmt, SwapStmt, MemSwapStmt, IfStmt, WithStmt, BlockStmt, SkipStmt}
 use Rattle.tw_syntax.specs.Terms.{RhsTree, ExprRhs, CallRhs, AllocRhs}
 use Rattle.tw_types.specs.Types.{Boolean}
-use Rattle.tw_resolve.specs.Expressions.{path_type}
+use Rattle.tw_resolve.specs.Expressions.{type_at_path}
 use Rattle.tw_resolve.specs.Setting.{Setting}
 use Rattle.tw_check.specs.Names.{Names, with_name}
 use Rattle.tw_check.specs.Liveness.{expr_names, live_after}
@@ -31,7 +31,7 @@ use Rattle.tw_state.proofs.CallEnds.{Below, Earlier, Smaller, below, RhsDescends
 
 module _ (setting : Setting) (funs : FunsFit setting) (rights : FunsRight setting) (k : ℕ) (act : Activation) (callees : (j m : ℕ) → Below j m k act.bound → BodiesEnd setting j m) where
   -- an `if` whose branches end
-  none_case : (held : Names) {at : Pos} {cond : PathTree} {first : StmtTree} {before after : Names} → path_type act.types cond ≡ Some Boolean → StmtFits setting act.types first → Right (with_name held cond.root.text true) first before after → before cond.root.text ≡ true
+  none_case : (held : Names) {at : Pos} {cond : PathTree} {first : StmtTree} {before after : Names} → type_at_path act.types cond ≡ Some Boolean → StmtFits setting act.types first → Right (with_name held cond.root.text true) first before after → before cond.root.text ≡ true
       → (x : State) → IsTypedIn setting act.types x → live_names x.store ≡ before → Ends setting act first x → Ends setting act (IfStmt at cond first Nothing) x
   none_case held {at} {cond} {first} {before} {after} bool fits right is x typed live ends =
       let root = live_value x.store before cond.root.text live is in
@@ -46,7 +46,7 @@ module _ (setting : Setting) (funs : FunsFit setting) (rights : FunsRight settin
       (ap (λ (l : Names). l cond.root.text) (ap (live_after true first) live ∙ right_ends right) ∙ held_stays right cond.root.text is_held ∙ is)
       (ap is_some root.1))
 
-  else_case : (held : Names) {at else_at : Pos} {cond : PathTree} {first other : StmtTree} {before after : Names} → path_type act.types cond ≡ Some Boolean → StmtFits setting act.types first → StmtFits setting act.types other
+  else_case : (held : Names) {at else_at : Pos} {cond : PathTree} {first other : StmtTree} {before after : Names} → type_at_path act.types cond ≡ Some Boolean → StmtFits setting act.types first → StmtFits setting act.types other
       → Right (with_name held cond.root.text true) first before after → Right (with_name held cond.root.text true) other before after → before cond.root.text ≡ true
       → (x : State) → IsTypedIn setting act.types x → live_names x.store ≡ before → Ends setting act first x → Ends setting act other x → Ends setting act (IfStmt at cond first (Else else_at other)) x
   else_case held {at} {else_at} {cond} {first} {other} {before} {after} bool fits other_fits right other_right is x typed live ends other_ends =

@@ -8,13 +8,12 @@ use Rattle.tw_types.specs.Types.{Ty, Pointer, block_count}
 use Rattle.tw_types.specs.Values.{Value, HasType, zero_value}
 use Rattle.tw_types.proofs.Zeros.{zero_value-typed}
 use Rattle.tw_resolve.specs.Declarations.{is_one_of}
-use Rattle.tw_resolve.specs.Expressions.{Variables, path_type}
-use Rattle.tw_resolve.specs.Programs.{end_variables}
+use Rattle.tw_resolve.specs.Expressions.{Types, type_at_path}
 use Rattle.tw_resolve.specs.Setting.{Setting, type_of, pointee}
 use Rattle.tw_state.specs.States.{Name, Free, Live, Store, State}
 use Rattle.tw_state.specs.Parts.{with_value_at}
 use Rattle.tw_state.specs.Evaluation.{zero_of}
-use Rattle.tw_state.specs.Steps.{Activation, Adds, Swaps, SwapsMemory, Takes, IsPadded, Pads, param_links, links, seen, seen_by, KeepsOthers}
+use Rattle.tw_state.specs.Steps.{fun_types, Activation, Adds, Swaps, SwapsMemory, Takes, IsPadded, Pads, param_links, links, seen, seen_by, KeepsOthers}
 use Rattle.tw_state.specs.Semantics.{Runs, RunsNothing, RunsSkip, RunsThen, RunsBlock, RunsLet, RunsUnlet, RunsSwap, RunsMemSwapNull, RunsMemSwap, RunsIf, RunsIfElse, RunsIfNot, RunsWith, RunsCall, RunsUncall, RunsCallZero, RunsUncallZero, RunsAlloc, RunsAllocNone, RunsFree, RunsFreeNone}
 use Rattle.tw_state.specs.Results.{Fits, IsCell, IsTypedIn}
 use Rattle.tw_state.proofs.Basics.{some_value, same_some, by_test, same_name, name_test, contradiction}
@@ -27,7 +26,7 @@ use Rattle.tw_state.proofs.TypedValues.{StoreFits, fits_typed, typed_fits, value
 
 module _ (setting : Setting) where
   -- a typed state with another typed store
-  pub typed_store : {types others : Variables} {old new : State} → IsTypedIn setting types old → new.head ≡ old.head → new.cells ≡ old.cells → StoreFits setting.widths others new.store → IsTypedIn setting others new
+  pub typed_store : {types others : Types} {old new : State} → IsTypedIn setting types old → new.head ≡ old.head → new.cells ≡ old.cells → StoreFits setting.widths others new.store → IsTypedIn setting others new
   typed_store {types} {others} {old} {new} typed head cells names = record {
     head_within = subst (λ n. n ≤ block_count setting.widths) (sym head) typed.head_within;
     all_blocks = ap length cells ∙ typed.all_blocks;
@@ -35,11 +34,11 @@ module _ (setting : Setting) where
     names = names;
   }
 
-  same_typed : {types : Variables} {old new : State} → old ≡ new → IsTypedIn setting types old → IsTypedIn setting types new
+  same_typed : {types : Types} {old new : State} → old ≡ new → IsTypedIn setting types old → IsTypedIn setting types new
   same_typed {types} {old} {new} same typed = subst (IsTypedIn setting types) same typed
 
   -- a name with a value of its type is added, or removed
-  pub typed_added : {types : Variables} {name : Name} {value : Value} {bare full : State} (ty : Ty) → types name ≡ Some ty → HasType setting.widths value ty → Adds name value bare full → IsTypedIn setting types bare → IsTypedIn setting types full
+  pub typed_added : {types : Types} {name : Name} {value : Value} {bare full : State} (ty : Ty) → types name ≡ Some ty → HasType setting.widths value ty → Adds name value bare full → IsTypedIn setting types bare → IsTypedIn setting types full
   typed_added {types} {name} {value} {bare} {full} ty is has adds typed =
       typed_store typed (ap (λ (s : State). s.head) adds.after) (ap (λ (s : State). s.cells) adds.after)
       (λ n.
@@ -47,7 +46,7 @@ module _ (setting : Setting) where
       (λ same. subst (λ m. Fits setting.widths (types m) (full.store m)) (same_name name n same) (typed_fits setting.widths (types name) (full.store name) ty value is (added adds) has))
       (λ other. subst (Fits setting.widths (types n)) (sym (added_others adds n other)) (typed.names n)))
 
-  pub typed_removed : {types : Variables} {name : Name} {value : Value} {bare full : State} → Adds name value bare full → IsTypedIn setting types full → IsTypedIn setting types bare
+  pub typed_removed : {types : Types} {name : Name} {value : Value} {bare full : State} → Adds name value bare full → IsTypedIn setting types full → IsTypedIn setting types bare
   typed_removed {types} {name} {value} {bare} {full} adds typed =
       typed_store typed (sym (ap (λ (s : State). s.head) adds.after)) (sym (ap (λ (s : State). s.cells) adds.after))
       (λ n.
@@ -56,13 +55,13 @@ module _ (setting : Setting) where
       (λ other. subst (Fits setting.widths (types n)) (added_others adds n other) (typed.names n)))
 
   -- the value of a name that was added has its type
-  pub added_typed : {types : Variables} {name : Name} {value : Value} {bare full : State} (ty : Ty) → types name ≡ Some ty → Adds name value bare full → IsTypedIn setting types full → HasType setting.widths value ty
+  pub added_typed : {types : Types} {name : Name} {value : Value} {bare full : State} (ty : Ty) → types name ≡ Some ty → Adds name value bare full → IsTypedIn setting types full → HasType setting.widths value ty
   added_typed {types} {name} {value} {bare} {full} ty is adds typed =
       let t = fits_typed setting.widths (types name) (full.store name) value (added adds) (typed.names name) in
       subst (HasType setting.widths value) (same_some t.1 is) t.2
 
   -- two values of one type are exchanged
-  typed_swap : {types : Variables} {left right : PathTree} {old new : State} (ty : Ty) → path_type types left ≡ Some ty → path_type types right ≡ Some ty → Swaps left right old new → IsTypedIn setting types old → IsTypedIn setting types new
+  typed_swap : {types : Types} {left right : PathTree} {old new : State} (ty : Ty) → type_at_path types left ≡ Some ty → type_at_path types right ≡ Some ty → Swaps left right old new → IsTypedIn setting types old → IsTypedIn setting types new
   typed_swap {types} {left} {right} {old} {new} ty l r a typed =
       let x = value_at_typed setting.widths types old.store typed.names left ty a.x l a.at_left in
       let y = value_at_typed setting.widths types old.store typed.names right ty a.y r a.at_right in
@@ -73,7 +72,7 @@ module _ (setting : Setting) where
       (value_other old.store left right a.x a.y a.y a.at_left a.at_right a.apart) x))
 
   -- a value is exchanged with that of a block
-  typed_memory : {types : Variables} {pointer place : PathTree} {old new : State} (target : ℕ) (ty : Ty) → path_type types pointer ≡ Some (Pointer target) → pointee setting (Some (Pointer target)) ≡ Some ty → path_type types place ≡ Some ty
+  typed_memory : {types : Types} {pointer place : PathTree} {old new : State} (target : ℕ) (ty : Ty) → type_at_path types pointer ≡ Some (Pointer target) → pointee setting (Some (Pointer target)) ≡ Some ty → type_at_path types place ≡ Some ty
       → SwapsMemory types pointer place old new → IsTypedIn setting types old → IsTypedIn setting types new
   typed_memory {types} {pointer} {place} {old} {new} target ty p content q a typed =
       let targets : target ≡ a.target = same_target (same_some p a.of_target) in
@@ -96,12 +95,12 @@ module _ (setting : Setting) where
   padded_fits None (Some v) (Some w) padded fits = absurd fits
   padded_fits None None (Some w) padded fits = absurd padded
 
-  typed_padded : {types : Variables} {stmts : StmtTree} {old new : State} → Pads types stmts old new → IsTypedIn setting types old → IsTypedIn setting types new
+  typed_padded : {types : Types} {stmts : StmtTree} {old new : State} → Pads types stmts old new → IsTypedIn setting types old → IsTypedIn setting types new
   typed_padded {types} {stmts} {old} {new} pads typed =
       typed_store typed (sym pads.head) (sym pads.cells) (λ name. padded_fits (types name) (old.store name) (new.store name) (pads.padded name) (typed.names name))
 
   -- a block is taken, or freed
-  pub typed_taken : {types : Variables} {to : _} {ty : Ty} {block : ℕ} {old new : State} → AllocFits setting to ty → Takes setting to block old new → IsTypedIn setting types old → IsTypedIn setting types new
+  pub typed_taken : {types : Types} {to : _} {ty : Ty} {block : ℕ} {old new : State} → AllocFits setting to ty → Takes setting to block old new → IsTypedIn setting types old → IsTypedIn setting types new
   typed_taken {types} {to} {ty} {block} {old} {new} fits t typed =
       let targets : fits.target ≡ t.target = same_some fits.numbered t.numbered in
       let denotes : pointee setting (Some (Pointer t.target)) ≡ Some fits.content = subst (λ n. pointee setting (Some (Pointer n)) ≡ Some fits.content) targets fits.denotes in
@@ -114,7 +113,7 @@ module _ (setting : Setting) where
         names = typed.names;
       })
 
-  typed_freed : {types : Variables} {to : _} {block : ℕ} {old new : State} → block ≤ block_count setting.widths → Takes setting to block old new → IsTypedIn setting types new → IsTypedIn setting types old
+  typed_freed : {types : Types} {to : _} {block : ℕ} {old new : State} → block ≤ block_count setting.widths → Takes setting to block old new → IsTypedIn setting types new → IsTypedIn setting types old
   typed_freed {types} {to} {block} {old} {new} within t typed =
       same_typed (sym (taken_from t)) (record {
         head_within = within;
@@ -124,10 +123,10 @@ module _ (setting : Setting) where
       })
 
   -- shared names have the same types for caller and callee
-  abbrev pub LinksFit : Variables → Variables → List (Name × Name) → Type 0
+  abbrev pub LinksFit : Types → Types → List (Name × Name) → Type 0
   LinksFit callee caller shared = AllByRecursion (λ link. callee link.0 ≡ caller link.1) shared
 
-  params_fit : (callee caller : Variables) (params : List ParamTree) (args : List NameTree) → AllByRecursion (ParamFits setting callee) params → ArgsFit setting caller params args → LinksFit callee caller (param_links params args)
+  params_fit : (callee caller : Types) (params : List ParamTree) (args : List NameTree) → AllByRecursion (ParamFits setting callee) params → ArgsFit setting caller params args → LinksFit callee caller (param_links params args)
   params_fit callee caller [] args each fit = tt
   params_fit callee caller (param ∷ params) [] each fit = tt
   params_fit callee caller (param ∷ params) (arg ∷ args) each fit =
@@ -136,13 +135,13 @@ module _ (setting : Setting) where
       same_some' : {o : Option Ty} {x y : Ty} → o ≡ Some x → o ≡ Some y → Some x ≡ Some y
       same_some' p q = sym p ∙ q
 
-  pub links_fit : (caller : Variables) (fun : FunTree) (target : NameTree) (args : List NameTree) (ty : Ty) → FunFits setting fun → caller target.text ≡ Some ty → type_of setting fun.result ≡ Some ty → ArgsFit setting caller fun.params args
-      → LinksFit (end_variables setting fun) caller (links fun target args)
+  pub links_fit : (caller : Types) (fun : FunTree) (target : NameTree) (args : List NameTree) (ty : Ty) → FunFits setting fun → caller target.text ≡ Some ty → type_of setting fun.result ≡ Some ty → ArgsFit setting caller fun.params args
+      → LinksFit (fun_types setting fun) caller (links fun target args)
   links_fit caller fun target args ty fun_fits is result fit =
-      (fun_fits.result.2 ∙ sym fun_fits.result.1 ∙ result ∙ sym is, params_fit (end_variables setting fun) caller fun.params args fun_fits.params fit)
+      (fun_fits.result.2 ∙ sym fun_fits.result.1 ∙ result ∙ sym is, params_fit (fun_types setting fun) caller fun.params args fun_fits.params fit)
 
   -- what a callee sees of a typed store is typed
-  seen_fits : (callee caller : Variables) (shared : List (Name × Name)) (store : Store) → LinksFit callee caller shared → StoreFits setting.widths caller store → StoreFits setting.widths callee (seen shared store)
+  seen_fits : (callee caller : Types) (shared : List (Name × Name)) (store : Store) → LinksFit callee caller shared → StoreFits setting.widths caller store → StoreFits setting.widths callee (seen shared store)
   seen_fits callee caller [] store links fits name = tt
   seen_fits callee caller (link ∷ more) store links fits name =
       by (bytes_eq link.0 name)
@@ -154,7 +153,7 @@ module _ (setting : Setting) where
       by false here there = there
 
   -- a shared name of a store of which the callee sees typed values is typed
-  outer_fits : (callee caller : Variables) (shared : List (Name × Name)) (store : Store) → AreDifferent (inner shared) → LinksFit callee caller shared → StoreFits setting.widths callee (seen shared store)
+  outer_fits : (callee caller : Types) (shared : List (Name × Name)) (store : Store) → AreDifferent (inner shared) → LinksFit callee caller shared → StoreFits setting.widths callee (seen shared store)
       → (name : Name) → is_one_of name (outer shared) ≡ true → Fits setting.widths (caller name) (store name)
   outer_fits callee caller [] store different links fits name one = contradiction one refl
   outer_fits callee caller (link ∷ more) store different links fits name one =
@@ -177,11 +176,11 @@ module _ (setting : Setting) where
           (λ is. subst (λ m. Fits setting.widths (callee m) (seen more store m)) (same_name link.0 n is) (subst (Fits setting.widths (callee link.0)) (sym (unseen more store link.0 different.0)) tt))
           (λ other. subst (Fits setting.widths (callee n)) (seen_later n other) (fits n))
 
-  pub typed_seen : {callee caller : Variables} {state : State} (shared : List (Name × Name)) → LinksFit callee caller shared → IsTypedIn setting caller state → IsTypedIn setting callee (seen_by shared state)
+  pub typed_seen : {callee caller : Types} {state : State} (shared : List (Name × Name)) → LinksFit callee caller shared → IsTypedIn setting caller state → IsTypedIn setting callee (seen_by shared state)
   typed_seen {callee} {caller} {state} shared links typed = typed_store typed refl refl (seen_fits callee caller shared state.store links typed.names)
 
   -- the caller's state after a call is typed if what the callee sees of it is
-  typed_from_seen : {callee caller : Variables} {old new : State} (shared : List (Name × Name)) → AreDifferent (inner shared) → LinksFit callee caller shared → KeepsOthers shared old.store new.store
+  typed_from_seen : {callee caller : Types} {old new : State} (shared : List (Name × Name)) → AreDifferent (inner shared) → LinksFit callee caller shared → KeepsOthers shared old.store new.store
       → IsTypedIn setting caller old → IsTypedIn setting callee (seen_by shared new) → IsTypedIn setting caller new
   typed_from_seen {callee} {caller} {old} {new} shared different links keeps before typed =
       typed_store typed refl refl
@@ -230,7 +229,7 @@ module _ (setting : Setting) (funs : FunsFit setting) where
       let shared = links fun target args in
       let fit = links_fit setting act.types fun target args fits.0 fun_fits fits.1 (ap (λ (f : FunTree). type_of setting f.result) (sym same) ∙ call.result) (subst (λ (f : FunTree). ArgsFit setting act.types f.params args) same call.fit) in
       typed_from_seen setting shared (links_different fun target args fun_fits.different) fit keeps typed
-      (typed_after (reverse_fits setting (end_variables setting fun) fun.body fun_fits.body) body (typed_seen setting shared fit typed))
+      (typed_after (reverse_fits setting (fun_types setting fun) fun.body fun_fits.body) body (typed_seen setting shared fit typed))
   typed_after fits (RunsCallZero fun v named bound zero adds) typed = typed_added setting fits.0 fits.1 (zero_typed setting named fits.2.named fits.2.result zero) adds typed
   typed_after fits (RunsUncallZero fun v named bound zero adds) typed = typed_removed setting adds typed
   typed_after {act} fits (RunsAlloc {target = target} {old = old} block t a) typed =

@@ -13,7 +13,7 @@ use Rattle.tw_types.specs.Types.{Widths, Ty, UnitTy, Word, Boolean, Pointer, Pai
 use Rattle.tw_types.specs.Values.{Value, UnitValue, Number, Truth, Address, PairValue, HasType, zero_value}
 use Rattle.tw_types.proofs.Zeros.{zero_value-typed}
 use Rattle.tw_resolve.proofs.Each.{each_first, each_rest}
-use Rattle.tw_resolve.specs.Expressions.{Variables, part, path_type}
+use Rattle.tw_resolve.specs.Expressions.{Types, part, type_at_path}
 use Rattle.tw_resolve.specs.Setting.{Setting}
 use Rattle.tw_check.specs.Liveness.{atom_names, expr_names}
 use Rattle.tw_state.specs.States.{Name, Store}
@@ -93,18 +93,18 @@ module _ (widths : Widths) where
   typed_fits ty o t value is has typed = subst₂ (λ (a : Option Ty) (b : Option Value). Fits widths a b) (sym is) (sym has) typed
 
   -- the names of a store have values of their types
-  abbrev pub StoreFits : Variables → Store → Type 0
+  abbrev pub StoreFits : Types → Store → Type 0
   StoreFits types store = (name : Name) → Fits widths (types name) (store name)
 
-  module _ (types : Variables) (store : Store) (fits : StoreFits types store) where
+  module _ (types : Types) (store : Store) (fits : StoreFits types store) where
     -- the value at a typed path
-    pub path_typed : (path : PathTree) (ty : Ty) (whole : Value) → store path.root.text ≡ Some whole → path_type types path ≡ Some ty → TypedPart widths path.steps whole ty
+    pub path_typed : (path : PathTree) (ty : Ty) (whole : Value) → store path.root.text ≡ Some whole → type_at_path types path ≡ Some ty → TypedPart widths path.steps whole ty
     path_typed path ty whole is typed =
         let root = fits_typed (types path.root.text) (store path.root.text) whole is (fits path.root.text) in
         part_typed path.steps whole root.0 ty root.2 (ap (part path.steps) (sym root.1) ∙ typed)
 
     -- a value at a typed path has its type
-    pub value_at_typed : (path : PathTree) (ty : Ty) (value : Value) → path_type types path ≡ Some ty → value_at store path ≡ Some value → HasType widths value ty
+    pub value_at_typed : (path : PathTree) (ty : Ty) (value : Value) → type_at_path types path ≡ Some ty → value_at store path ≡ Some value → HasType widths value ty
     value_at_typed path ty value typed found = by_option (store path.root.text) absent present
       where
         absent : store path.root.text ≡ None → HasType widths value ty
@@ -116,7 +116,7 @@ module _ (widths : Widths) where
             subst (λ v. HasType widths v ty) (same_some p.is (ap (option_and_then (part_of path.steps)) (sym is) ∙ found)) p.typed
 
     -- the store with another value of the path's type
-    pub with_value_at_typed : (path : PathTree) (ty : Ty) (old new : Value) → path_type types path ≡ Some ty → value_at store path ≡ Some old → HasType widths new ty → StoreFits types (with_value_at store path new)
+    pub with_value_at_typed : (path : PathTree) (ty : Ty) (old new : Value) → type_at_path types path ≡ Some ty → value_at store path ≡ Some old → HasType widths new ty → StoreFits types (with_value_at store path new)
     with_value_at_typed path ty old new typed found fresh name = by_test (bytes_eq path.root.text name) same other
       where
         other : bytes_eq path.root.text name ≡ false → Fits widths (types name) (with_value_at store path new name)
@@ -205,7 +205,7 @@ module _ (widths : Widths) where
   negation_evaluates (Address k) ty p same = absurd p
   negation_evaluates (PairValue k l) ty p same = absurd p
 
-module _ (setting : Setting) (types : Variables) (store : Store) (fits : StoreFits setting.widths types store) where
+module _ (setting : Setting) (types : Types) (store : Store) (fits : StoreFits setting.widths types store) where
   -- a value of a typed atom has its type
   pub atom_typed : (atom : AtomTree) (ty : Ty) (value : Value) → AtomFits setting types atom ty → atom_value setting store atom ≡ Some value → HasType setting.widths value ty
   atom_typed (PlaceAtom at path) ty value typed is = value_at_typed setting.widths types store fits path ty value typed is

@@ -7,15 +7,14 @@ use Rattle.tw_syntax.specs.Programs.{FunTree}
 use Rattle.tw_syntax.specs.Statements.{StmtTree}
 use Rattle.tw_types.specs.Types.{Widths, Ty, Pointer, block_count}
 use Rattle.tw_types.specs.Values.{Value, HasType}
-use Rattle.tw_resolve.specs.Expressions.{Variables}
-use Rattle.tw_resolve.specs.Programs.{end_variables}
+use Rattle.tw_resolve.specs.Expressions.{Types}
 use Rattle.tw_resolve.specs.Setting.{Setting, pointee}
 use Rattle.tw_check.specs.Liveness.{live_at_start, live_at_end}
 use Rattle.tw_check.specs.Names.{Names}
 use Rattle.tw_check.specs.Reverse.{reverse_of}
 use Rattle.tw_state.specs.States.{Name, Cell, Free, Live, State, IsWellFormed}
 use Rattle.tw_state.specs.Evaluation.{zero_of}
-use Rattle.tw_state.specs.Steps.{activation_of, live_names, Adds, running_bound}
+use Rattle.tw_state.specs.Steps.{fun_types, activation_of, live_names, Adds, running_bound}
 use Rattle.tw_state.specs.Semantics.{Runs}
 use Rattle.tw_state.specs.Stuck.{Reason, Unmet, Sticks}
 
@@ -31,7 +30,7 @@ IsCell setting (Free next) = next ≤ block_count setting.widths
 IsCell setting (Live target value) = (ty : Ty) × (pointee setting (Some (Pointer target)) ≡ Some ty) × HasType setting.widths value ty
 
 -- the state is typed in a program, for variables of these types: there is a cell for each block, and each value has its type
-pub record IsTypedIn (setting : Setting) (types : Variables) (state : State) : Type 0 where
+pub record IsTypedIn (setting : Setting) (types : Types) (state : State) : Type 0 where
   pub head_within : state.head ≤ block_count setting.widths
   pub all_blocks : length state.cells ≡ block_count setting.widths
   pub each_cell : AllByRecursion (IsCell setting) state.cells
@@ -39,7 +38,7 @@ pub record IsTypedIn (setting : Setting) (types : Variables) (state : State) : T
 
 -- the state is typed in a function, and exactly these names have values
 pub record IsTypedAt (setting : Setting) (fun : FunTree) (live : Names) (state : State) : Type 0 where
-  pub typed : IsTypedIn setting (end_variables setting fun) state
+  pub typed : IsTypedIn setting (fun_types setting fun) state
   pub names : live_names state.store ≡ live
 
 -- the entry takes the old state to the new one. With the bound 0 its result is the zero of its type

@@ -10,7 +10,7 @@ use Rattle.tw_syntax.specs.Types.{WrittenTree}
 use Rattle.tw_types.specs.Types.{Ty, Pointer}
 use Rattle.tw_types.specs.Values.{Value, Address, zero_value}
 use Rattle.tw_resolve.specs.Declarations.{is_one_of, target_number}
-use Rattle.tw_resolve.specs.Expressions.{Variables, path_type}
+use Rattle.tw_resolve.specs.Expressions.{Types, variable_type, type_at_path}
 use Rattle.tw_resolve.specs.Programs.{end_variables}
 use Rattle.tw_resolve.specs.Setting.{Setting}
 use Rattle.tw_check.specs.Liveness.{live_after}
@@ -20,14 +20,18 @@ use Rattle.tw_state.specs.States.{Name, Free, Live, Store, State, with_value, ce
 use Rattle.tw_state.specs.Parts.{value_at, with_value_at}
 use Rattle.tw_state.specs.Evaluation.{zero_of_target}
 
+-- the types of the variables of a function
+abbrev pub fun_types : Setting → FunTree → Types
+fun_types setting fun = variable_type (end_variables setting fun)
+
 -- what is known of a function while it runs: the types of its variables, and the number that its bound has
 pub record Activation : Type 0 where
-  pub types : Variables
+  pub types : Types
   pub bound : ℕ
 
 -- the activation of a function with this bound
 abbrev pub activation_of : Setting → FunTree → ℕ → Activation
-activation_of setting fun bound = record { types = end_variables setting fun; bound = bound }
+activation_of setting fun bound = record { types = fun_types setting fun; bound = bound }
 
 -- the names that have a value
 abbrev pub live_names : Store → Names
@@ -48,13 +52,13 @@ pub record Swaps (left right : PathTree) (old new : State) : Type 0 where
   pub after : new ≡ record old { store = with_value_at (with_value_at old.store left y) right x }
 
 -- the value of the block that a pointer leads to, live with the pointer's target, and the value at a path change places
-pub record SwapsMemory (types : Variables) (pointer place : PathTree) (old new : State) : Type 0 where
+pub record SwapsMemory (types : Types) (pointer place : PathTree) (old new : State) : Type 0 where
   pub block : ℕ
   pub target : ℕ
   pub x : Value
   pub y : Value
   pub points : value_at old.store pointer ≡ Some (Address block)
-  pub of_target : path_type types pointer ≡ Some (Pointer target)
+  pub of_target : type_at_path types pointer ≡ Some (Pointer target)
   pub in_cell : cell_at old.cells block ≡ Some (Live target x)
   pub at_place : value_at old.store place ≡ Some y
   pub apart : overlap pointer place ≡ false
@@ -80,7 +84,7 @@ IsPadded (Some ty) (Some x) None = x ≡ zero_value ty
 IsPadded None x y = ⊥
 
 -- the names that statements assign get zeros, those that they un-assign have zeros and are removed, and nothing else changes
-pub record Pads (types : Variables) (stmts : StmtTree) (old new : State) : Type 0 where
+pub record Pads (types : Types) (stmts : StmtTree) (old new : State) : Type 0 where
   pub head : old.head ≡ new.head
   pub cells : old.cells ≡ new.cells
   pub after : live_names new.store ≡ live_after true stmts (live_names old.store)

@@ -8,7 +8,7 @@ use Rattle.tw_syntax.specs.Terms.{ExprRhs, CallRhs, AllocRhs}
 use Rattle.tw_types.specs.Types.{Pointer, Ty}
 use Rattle.tw_types.specs.Values.{Value, Truth, Address, zero_value}
 use Rattle.tw_resolve.specs.Declarations.{target_number}
-use Rattle.tw_resolve.specs.Expressions.{fun_named, path_type, Variables}
+use Rattle.tw_resolve.specs.Expressions.{fun_named, type_at_path, Types}
 use Rattle.tw_resolve.specs.Setting.{Setting}
 use Rattle.tw_check.specs.Liveness.{live_after}
 use Rattle.tw_check.specs.Reverse.{reverse_of}
@@ -32,7 +32,7 @@ abbrev pub IsNotLive : State → ℕ → ℕ → Type 0
 IsNotLive state block target = (value : Value) → cell_at state.cells block ≢ Some (Live target value)
 
 -- a name that statements un-assign does not have the zero of its type
-pub record LacksPad (types : Variables) (stmts : StmtTree) (old : State) : Type 0 where
+pub record LacksPad (types : Types) (stmts : StmtTree) (old : State) : Type 0 where
   pub name : Name
   pub value : Value
   pub ty : Ty
@@ -58,7 +58,7 @@ pub data Sticks (setting : Setting) : Activation → StmtTree → State → Reas
   -- `*p <-> q;`: p is not null, and does not lead to a live block of its target
   StuckMemSwap : {act : Activation} {at pointer value : _} {old : State} (block target : ℕ)
       → value_at old.store pointer ≡ Some (Address block) → block ≢ 0
-      → path_type act.types pointer ≡ Some (Pointer target) → IsNotLive old block target
+      → type_at_path act.types pointer ≡ Some (Pointer target) → IsNotLive old block target
       → Sticks setting act (MemSwapStmt at pointer value) old Wild at
   -- `if p S` and `if p S else R`: the branch that is taken is stuck; or none is, and a name that S un-assigns is not zero
   StuckIf : {act at cond first other : _} {old : State} {reason : Reason} {place : Pos}
