@@ -15,6 +15,7 @@ pub mod Trying
 pub mod Ending
 pub mod Known
 pub mod InOrder
+pub mod Locals
 pub mod Collecting
 pub mod Numbered
 pub mod NameRules
