@@ -4,7 +4,7 @@ use mathlib.Core.Bool.{beq}
 use Rattle.std.proofs.lemmas.Bool.{or_parts}
 use Rattle.tw_resolve.proofs.Each.{each_weaker}
 use Rattle.tw_syntax.specs.Statements.{StmtTree, Nothing, Then, Else, LetStmt, SwapStmt, MemSwapStmt, IfStmt, WithStmt, BlockStmt, SkipStmt}
-use Rattle.tw_resolve.proofs.Declaring.{bytes_eq-sym}
+use Rattle.tw_resolve.proofs.Texts.{bytes_eq-sym}
 use Rattle.tw_check.specs.Names.{Names, is_one_of, agree_on}
 use Rattle.tw_check.specs.Liveness.{rhs_names, texts, names_of, live_after}
 use Rattle.tw_check.specs.Right.{Right}

@@ -5,7 +5,7 @@ use mathlib.Core.Bool.{beq}
 use Rattle.std.proofs.Common.{◌≡◌, ◌∙◌, ap, refl, ℕ, Bool, true, false, ◌&&◌, ◌||◌, if◌then◌else◌, List, [], ◌∷◌, bytes_eq}
 use Rattle.std.proofs.lemmas.Slice.Eq.{bytes_eq-Decides}
 use Rattle.tw_syntax.specs.declared.name.Name.{Name}
-use Rattle.tw_resolve.proofs.Declaring.{bytes_eq-sym}
+use Rattle.tw_resolve.proofs.Texts.{bytes_eq-sym}
 use Rattle.tw_check.specs.Names.{Names, with_name, is_one_of, agree_on}
 use Rattle.tw_check.specs.Walks.{texts_of, noted, is_as_noted, put_back}
 use Rattle.tw_check.proofs.NameSets.{on_or_off}

@@ -1,6 +1,6 @@
 -- The set of the names of a list.
 use Rattle.std.proofs.Common.{◌≡◌, ◌∙◌, ap, refl, ℕ, Bool, true, false, ◌||◌, if◌then◌else◌, List, ◌∷◌, bytes_eq}
-use Rattle.tw_resolve.proofs.Declaring.{bytes_eq-sym}
+use Rattle.tw_resolve.proofs.Texts.{bytes_eq-sym}
 use Rattle.tw_check.specs.Names.{Names, with_name, is_one_of}
 
 true_or : (was later : Bool) → true ≡ (was || (true || later))

@@ -5,7 +5,7 @@ use Rattle.tw_resolve.specs.Demands.{first_broken}
 use Rattle.tw_resolve.proofs.Demands.{Holds, EachHolds, none_broken-each}
 use Rattle.tw_resolve.proofs.Each.{each_first, each_rest, each-append}
 use Rattle.tw_syntax.specs.Programs.{FunTree}
-use Rattle.tw_resolve.proofs.Declaring.{bytes_eq-sym}
+use Rattle.tw_resolve.proofs.Texts.{bytes_eq-sym}
 use Rattle.tw_check.specs.Names.{Names, no_names, is_one_of, agree_on}
 use Rattle.tw_check.specs.Liveness.{names_of, live_after, param_names, live_at_start, live_at_end}
 use Rattle.tw_check.specs.Right.{Right, IsRight}

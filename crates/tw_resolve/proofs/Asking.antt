@@ -1,29 +1,33 @@
 -- What a resolved program tells of its functions, by what it keeps.
-use Rattle.std.proofs.Common.{◌≡◌, ◌∙◌, ◌<◌, ◌+◌, arith, is_some, true, Result, Ok, Err, IfOk, IsSome, ap, sym, subst, refl, ℕ, zero, suc, List, [], ◌∷◌, ◌++◌, map, length, get_or, Option, Some, None, option_map, option_and_then, slice_get}
+use Rattle.std.proofs.Common.{◌≤◌, filter, position, bytes_eq, ◌≡◌, ◌∙◌, ◌<◌, ◌+◌, arith, is_some, true, Result, Ok, Err, IfOk, IsSome, ap, sym, subst, refl, ℕ, zero, suc, List, [], ◌∷◌, ◌++◌, map, length, get_or, Option, Some, None, option_map, option_and_then, slice_get}
 use Rattle.std.specs.List.{AllByRecursion}
 use Rattle.std.proofs.lemmas.List.{length-append, length-map, map-append}
 use Rattle.std.proofs.lemmas.Option.{slice_get-map, slice_get_read}
+use Rattle.std.proofs.Math.Bool.{Bool-set}
 use Rattle.std.proofs.Math.Logic.{∥∥₁_elim}
-use Rattle.tw_syntax.specs.Programs.{FunTree, ParamTree, ProgramTree}
+use Rattle.std.proofs.Math.Nat.{ℕ_set}
+use Rattle.tw_syntax.specs.declared.program.Fun.{Fun}
+use Rattle.tw_syntax.specs.Programs.{FunTree, ParamTree, ProgramTree, fun_tree, param_tree, program_tree}
 use Rattle.tw_syntax.specs.Types.{WrittenTree}
 use Rattle.tw_types.specs.declared.types.Ty as ty
 use Rattle.tw_types.specs.Types.{Ty}
 use Rattle.tw_types.specs.FromCode.{ty_of}
+use Rattle.tw_resolve.specs.declared.resolved.Resolved.{Resolved}
 use Rattle.tw_resolve.specs.declared.tables.Tables.{Tables}
 use Rattle.tw_resolve.specs.declared.variables.Variables.{Variables as VariablesOfCode}
-use Rattle.tw_resolve.specs.Declarations.{Name, is_one_of}
+use Rattle.tw_resolve.specs.Declarations.{Name, is_one_of, AreDifferent}
 use Rattle.tw_resolve.specs.Setting.{Setting, type_of}
-use Rattle.tw_resolve.specs.Expressions.{Variables, variable_type, params_of}
-use Rattle.tw_resolve.specs.Programs.{end_variables, param_variables, variable_names}
-use Rattle.tw_resolve.specs.Resolved.{params_at, param_type_at, result_at, type_at, variable_names_at, variables_at}
+use Rattle.tw_resolve.specs.Expressions.{Variables, texts_of, variable_type, params_of}
+use Rattle.tw_resolve.specs.Programs.{end_variables, is_local, param_variables, variable_names}
+use Rattle.tw_resolve.specs.Resolved.{locals_at, locals_of, resolved_setting, params_at, param_type_at, result_at, type_at, variable_names_at, variables_at}
 use Rattle.tw_resolve.specs.Tables.{AreTypedTablesOf, AreVariables, program_setting, setting_in}
 use Rattle.tw_resolve.specs.Variables.{variables_in}
-use Rattle.tw_resolve.proofs.Assigned.{names_in}
 use Rattle.tw_resolve.proofs.Each.{each_at}
 use Rattle.tw_resolve.proofs.Known.{IsKnownFun}
+use Rattle.tw_resolve.proofs.Locals.{local_after, local_before, local_len, locals}
 use Rattle.tw_resolve.proofs.Params.{end_after_params, type_there as variable_there}
-use Rattle.tw_resolve.proofs.Sets.{found_types}
-use Rattle.tw_resolve.proofs.WellTyped.{same}
+use Rattle.tw_resolve.proofs.Sets.{found_types, found_variable}
+use Rattle.tw_resolve.proofs.WellTyped.{all_funs, same}
 
 -- there are variables for each function
 pub as_many : (setting : Setting) (found : List VariablesOfCode) → AreVariables setting found → length found ≡ length setting.funs
@@ -140,19 +144,19 @@ module _ (setting : Setting) (known : AllByRecursion (IsKnownFun setting) settin
       one same = cc same
 
 -- the names of the variables of a function
-pub names_found : (setting : Setting) (number : ℕ) (variables : Variables) → AllByRecursion (λ fun. names_in (end_variables setting fun) ≡ variable_names fun) setting.funs
-    → variables_at setting number ≡ Some variables → variable_names_at setting number ≡ Some (names_in variables)
+pub names_found : (setting : Setting) (number : ℕ) (variables : Variables) → AllByRecursion (λ fun. texts_of (end_variables setting fun) ≡ variable_names fun) setting.funs
+    → variables_at setting number ≡ Some variables → variable_names_at setting number ≡ Some (texts_of variables)
 names_found setting number variables named is = by (slice_get setting.funs number) refl is
   where
-    by : (o : Option FunTree) → slice_get setting.funs number ≡ o → option_map (end_variables setting) o ≡ Some variables → option_map variable_names o ≡ Some (names_in variables)
+    by : (o : Option FunTree) → slice_get setting.funs number ≡ o → option_map (end_variables setting) o ≡ Some variables → option_map variable_names o ≡ Some (texts_of variables)
     by (Some fun) at is =
-        ap Some (sym (each_at (λ f. names_in (end_variables setting f) ≡ variable_names f) setting.funs number fun named at))
-        ∙ ap (option_map names_in) is
+        ap Some (sym (each_at (λ f. texts_of (end_variables setting f) ≡ variable_names f) setting.funs number fun named at))
+        ∙ ap (option_map texts_of) is
     by None at is = absurd (cc is)
 
 -- a variable has a type exactly if it has a name of the function
 pub name_there : (setting : Setting) (number : ℕ) (variables : Variables) (name : Name) (found : Option ty.Ty)
-    → variable_names_at setting number ≡ Some (names_in variables) → option_map ty_of found ≡ variable_type variables name
+    → variable_names_at setting number ≡ Some (texts_of variables) → option_map ty_of found ≡ variable_type variables name
     → option_map (is_one_of name) (variable_names_at setting number) ≡ Some (is_some found)
 name_there setting number variables name found named is =
     ap (option_map (is_one_of name)) named ∙ ap Some (sym (variable_there variables name) ∙ ap is_some (sym is) ∙ same_there found)
@@ -160,3 +164,64 @@ name_there setting number variables name found named is =
     same_there : (o : Option ty.Ty) → is_some (option_map ty_of o) ≡ is_some o
     same_there (Some ty) = refl
     same_there None = refl
+
+-- the local variables are those after so many parameters, without the one at a place
+abbrev pub AreLocals : ℕ → ℕ → Variables → Variables → Type 0
+AreLocals params returned variables locals =
+    (length locals + params + 1 ≡ length variables)
+    × ((i : ℕ) → params + i < returned → slice_get locals i ≡ slice_get variables (params + i))
+    × ((i : ℕ) → returned ≤ params + i → slice_get locals i ≡ slice_get variables (params + i + 1))
+
+module _ (resolved : Resolved) (number : ℕ) (fun : FunTree) (variables : Variables) (at : slice_get (resolved_setting resolved).funs number ≡ Some fun)
+    (is : variables_at (resolved_setting resolved) number ≡ Some variables) where
+  abbrev setting : Setting
+  setting = resolved_setting resolved
+
+  ends : end_variables setting fun ≡ variables
+  ends = one (sym (ap (option_map (end_variables setting)) at) ∙ is)
+    where
+      one : {x y : Variables} → Some x ≡ Some y → x ≡ y
+      one same = cc same
+
+  known_fun : AreTypedTablesOf (program_tree resolved.program.now) resolved.tables → IsKnownFun setting fun
+  known_fun are = each_at (IsKnownFun setting) setting.funs number fun (all_funs (program_tree resolved.program.now) resolved.tables are) at
+
+  -- the returned variable is one of them
+  pub returned_there : is_some (variable_type variables fun.returned.text) ≡ true
+  returned_there =
+      ∥∥₁_elim resolved.typed (Bool-set _ _)
+      (λ are. ap (λ (v : Variables). is_some (variable_type v fun.returned.text)) (sym ends) ∙ ap is_some (known_fun are).returned ∙ (known_fun are).result)
+
+  are_locals : (place : ℕ) → AreDifferent (texts_of variables) → position (bytes_eq fun.returned.text) (texts_of variables) ≡ Some place
+      → AreLocals (length fun.params) place variables (locals_at setting number)
+  are_locals place different found = ∥∥₁_elim resolved.typed (hlevel (ℕ_set, found_variable)) (λ are. by (known_fun are))
+    where
+      by : IsKnownFun setting fun → AreLocals (length fun.params) place variables (locals_at setting number)
+      by here =
+          let first = param_variables setting fun.params in
+          let more = end_after_params setting fun in
+          let split : variables ≡ first ++ more.0 = sym ends ∙ more.1 in
+          let params = map (λ param. param.name.text) fun.params in
+          let differ = subst (λ (v : Variables). AreDifferent (texts_of v)) split different in
+          let place_in = ap (λ (v : Variables). position (bytes_eq fun.returned.text) (texts_of v)) (sym split) ∙ found in
+          let count : length params ≡ length fun.params = length-map fun.params (λ param. param.name.text) in
+          let locals_same : locals_at setting number ≡ filter (locals params fun.returned.text) (first ++ more.0)
+          = ap (locals_of setting) at ∙ ap (filter (is_local fun)) more.1 in
+          let whole : AreLocals (length params) place (first ++ more.0) (filter (locals params fun.returned.text) (first ++ more.0)) = (
+            local_len params fun.returned.text first more.0 here.first.names differ here.own place place_in,
+            local_before params fun.returned.text first more.0 here.first.names differ here.own place place_in,
+            local_after params fun.returned.text first more.0 here.first.names differ here.own place place_in,
+          ) in
+          let kept = filter (locals params fun.returned.text) (first ++ more.0) in
+          let one = subst (λ (n : ℕ). AreLocals n place (first ++ more.0) kept) count whole in
+          let two = subst (λ (v : Variables). AreLocals (length fun.params) place v kept) (sym split) one in
+          subst (λ (l : Variables). AreLocals (length fun.params) place variables l) (sym locals_same) two
+
+-- the same of a function of the code
+pub are_locals_of : (resolved : Resolved) (number : ℕ) (fun : Fun) (variables : Variables) (place : ℕ) (found : Option ℕ)
+    → slice_get (resolved_setting resolved).funs number ≡ Some (fun_tree fun) → variables_at (resolved_setting resolved) number ≡ Some variables
+    → AreDifferent (texts_of variables) → found ≡ position (bytes_eq (fun_tree fun).returned.text) (texts_of variables) → found ≡ Some place
+    → AreLocals (length fun.params.now) place variables (locals_at (resolved_setting resolved) number)
+are_locals_of resolved number fun variables place found at is different searched here =
+    subst (λ (n : ℕ). AreLocals n place variables (locals_at (resolved_setting resolved) number)) (length-map fun.params.now param_tree)
+    (are_locals resolved number (fun_tree fun) variables at is place different (sym searched ∙ here))

@@ -1,5 +1,5 @@
 -- The variables of a well-typed function are its parameters and all targets of its assignments.
-use Rattle.std.proofs.Common.{◌≡◌, ◌∙◌, ◌++◌, ap, sym, refl, ℕ, suc, Bool, true, false, if◌then◌else◌, List, [], ◌∷◌, map, flat_map, fold, get_or, Option, Some, None, is_some, option_and_then, slice_get, bytes_eq}
+use Rattle.std.proofs.Common.{◌≡◌, ◌∙◌, ◌++◌, ap, sym, refl, ℕ, suc, Bool, true, false, if◌then◌else◌, List, [], ◌∷◌, flat_map, fold, get_or, Option, Some, None, is_some, option_and_then, slice_get, bytes_eq}
 use Rattle.std.specs.List.{AllByRecursion}
 use Rattle.std.proofs.lemmas.Bool.{and_parts}
 use Rattle.std.proofs.lemmas.List.{map-append}
@@ -16,7 +16,7 @@ use Rattle.tw_resolve.specs.Declarations.{Name, number_of, targets_in, atom_targ
 use Rattle.tw_resolve.specs.AliasTypes.{IsNumbered}
 use Rattle.tw_resolve.specs.Denotes.{AreComplete}
 use Rattle.tw_resolve.specs.Setting.{Setting, IsKnown, type_of, size_rules, written_rules, fits}
-use Rattle.tw_resolve.specs.Expressions.{Variables, variable_type, path_type, path_rules, atom_type, expr_type, rhs_type, atom_rules, expr_rules, rhs_rules}
+use Rattle.tw_resolve.specs.Expressions.{Variables, texts_of, variable_type, path_type, path_rules, atom_type, expr_type, rhs_type, atom_rules, expr_rules, rhs_rules}
 use Rattle.tw_resolve.specs.Statements.{with_variable, assigned, variables_after, stmt_rules}
 use Rattle.tw_resolve.specs.Programs.{with_new, variable_names, params_rules, param_variables, return_rules, end_variables, fun_rules, funs_rules}
 use Rattle.tw_resolve.proofs.Demands.{Holds, EachHolds}
@@ -24,19 +24,15 @@ use Rattle.tw_resolve.proofs.Each.{each_at, each_first, each_rest}
 use Rattle.tw_resolve.proofs.Known.{IsKnownFun, known, names_of_written, is_some_pair}
 use Rattle.tw_resolve.proofs.Params.{type_there}
 
--- the names of variables
-abbrev pub names_in : Variables → List Name
-names_in variables = map (λ variable. variable.0) variables
-
 -- a variable with a known type is declared, if it is new
 names_with : (variables : Variables) (name : Name) (found : Option Ty) → is_some found ≡ true
-    → names_in (with_variable variables name found) ≡ with_new (names_in variables) name
+    → texts_of (with_variable variables name found) ≡ with_new (texts_of variables) name
 names_with variables name None is = absurd (cc is)
 names_with variables name (Some ty) is =
     by (is_some (variable_type variables name))
-    ∙ ap (λ (k : Bool). if k then names_in variables else names_in variables ++ name ∷ []) (type_there variables name)
+    ∙ ap (λ (k : Bool). if k then texts_of variables else texts_of variables ++ name ∷ []) (type_there variables name)
   where
-    by : (k : Bool) → names_in (if k then variables else variables ++ (name, ty) ∷ []) ≡ (if k then names_in variables else names_in variables ++ name ∷ [])
+    by : (k : Bool) → texts_of (if k then variables else variables ++ (name, ty) ∷ []) ≡ (if k then texts_of variables else texts_of variables ++ name ∷ [])
     by true = refl
     by false = map-append (λ variable. variable.0) variables ((name, ty) ∷ [])
 
@@ -85,17 +81,17 @@ module _ (setting : Setting) (complete : AreComplete setting.scope setting.types
   rhs_typed number fun variables (AllocRhs to) each numbered = known setting complete (PtrType first_place to) (names_of_written setting complete to each) numbered
 
   two_names : (variables : Variables) (first rest : StmtTree)
-      → names_in (variables_after setting variables first) ≡ fold with_new (names_in variables) (assigned first)
-      → names_in (variables_after setting (variables_after setting variables first) rest) ≡ fold with_new (names_in (variables_after setting variables first)) (assigned rest)
-      → names_in (variables_after setting (variables_after setting variables first) rest) ≡ fold with_new (names_in variables) (assigned first ++ assigned rest)
+      → texts_of (variables_after setting variables first) ≡ fold with_new (texts_of variables) (assigned first)
+      → texts_of (variables_after setting (variables_after setting variables first) rest) ≡ fold with_new (texts_of (variables_after setting variables first)) (assigned rest)
+      → texts_of (variables_after setting (variables_after setting variables first) rest) ≡ fold with_new (texts_of variables) (assigned first ++ assigned rest)
   two_names variables first rest one two =
       two
       ∙ ap (λ (names : List Name). fold with_new names (assigned rest)) one
-      ∙ sym (fold-append with_new (names_in variables) (assigned first) (assigned rest))
+      ∙ sym (fold-append with_new (texts_of variables) (assigned first) (assigned rest))
 
   -- the names of the variables after a statement that keeps its rules
   stmt_names : (number : ℕ) (fun : FunTree) (variables : Variables) (stmt : StmtTree) → EachHolds (stmt_rules setting number fun variables stmt)
-      → AreNumbered (stmt_targets stmt) → names_in (variables_after setting variables stmt) ≡ fold with_new (names_in variables) (assigned stmt)
+      → AreNumbered (stmt_targets stmt) → texts_of (variables_after setting variables stmt) ≡ fold with_new (texts_of variables) (assigned stmt)
   stmt_names number fun variables Nothing each numbered = refl
   stmt_names number fun variables (Then first rest) each numbered =
       let rules = stmt_rules setting number fun variables first in
@@ -131,7 +127,7 @@ module _ (setting : Setting) (complete : AreComplete setting.scope setting.types
 
   -- the names of the variables of a function
   abbrev pub IsNamed : FunTree → Type 0
-  IsNamed fun = names_in (end_variables setting fun) ≡ variable_names fun
+  IsNamed fun = texts_of (end_variables setting fun) ≡ variable_names fun
 
   fun_named_all : (number : ℕ) (fun : FunTree) → EachHolds (fun_rules setting number fun) → AreNumbered (decl_targets (FunDecl fun)) → IsKnownFun setting fun → IsNamed fun
   fun_named_all number fun each numbered here =

@@ -1,5 +1,5 @@
 -- The written types of a well-typed program have types.
-use Rattle.std.proofs.Common.{◌≡◌, ◌++◌, ℕ, suc, true, List, [], ◌∷◌, flat_map, Option, Some, None, is_some, option_map, refl}
+use Rattle.std.proofs.Common.{◌≡◌, ◌++◌, ℕ, suc, Bool, true, false, not, List, [], ◌∷◌, map, flat_map, Option, Some, None, is_some, option_map, refl}
 use Rattle.std.specs.List.{AllByRecursion}
 use Rattle.std.proofs.lemmas.Bool.{and_parts}
 use Rattle.tw_syntax.specs.Programs.{ParamTree, AliasTree, FunTree, DeclTree, AliasDecl, FunDecl}
@@ -7,7 +7,7 @@ use Rattle.tw_syntax.specs.Statements.{StmtTree, Nothing, Then, Else, LetStmt, S
 use Rattle.tw_syntax.specs.Terms.{AtomTree, PlaceAtom, NumberAtom, TrueAtom, FalseAtom, UnitAtom, NullAtom, ZeroAtom, ExprTree, OneExpr, TwoExpr, NotExpr, OpExpr, RhsTree, ExprRhs, CallRhs, AllocRhs}
 use Rattle.tw_syntax.specs.Types.{WrittenTree, UnitType, UintType, BoolType, PairType, PtrType, NamedType, written_place}
 use Rattle.tw_types.specs.Types.{Ty, Boolean, Pointer}
-use Rattle.tw_resolve.specs.Declarations.{Name, aliases_of, funs_of, target_number, targets_in, atom_targets, expr_targets, rhs_targets, stmt_targets, decl_targets}
+use Rattle.tw_resolve.specs.Declarations.{Name, is_one_of, aliases_of, funs_of, target_number, targets_in, atom_targets, expr_targets, rhs_targets, stmt_targets, decl_targets}
 use Rattle.tw_resolve.specs.AliasTypes.{IsNumbered}
 use Rattle.tw_resolve.specs.Denotes.{names_declared, AreComplete}
 use Rattle.tw_resolve.specs.Setting.{Setting, type_of, IsKnown, pair_of, size_rules, part_rules, written_rules}
@@ -23,17 +23,23 @@ is_some_pair (Some first) (Some second) one two = refl
 is_some_pair None second one two = absurd (cc one)
 is_some_pair (Some first) None one two = absurd (cc two)
 
+is_false : (k : Bool) → not k ≡ true → k ≡ false
+is_false false is = refl
+is_false true is = absurd (cc is)
+
 is_some_pointer : (number : Option ℕ) → is_some number ≡ true → is_some (option_map Pointer number) ≡ true
 is_some_pointer (Some number) is = refl
 is_some_pointer None is = absurd (cc is)
 
--- the written types of a function have types, its parameters come first, and the returned variable has the type of the result
+-- the written types of a function have types, its parameters come first, and the returned variable is none of them and has the type of
+-- the result
 pub record IsKnownFun (setting : Setting) (fun : FunTree) : Type 0 where
   pub params : AllByRecursion (λ param. IsKnown setting param.ty) fun.params
   pub result : IsKnown setting fun.result
   pub targets : AllByRecursion (IsKnown setting) (decl_targets (FunDecl fun))
   pub first : AreParams setting fun.params (param_variables setting fun.params)
   pub returned : variable_type (end_variables setting fun) fun.returned.text ≡ type_of setting fun.result
+  pub own : is_one_of fun.returned.text (map (λ param. param.name.text) fun.params) ≡ false
 
 module _ (setting : Setting) (complete : AreComplete setting.scope setting.types) where
   abbrev AreNumbered : List WrittenTree → Type 0
@@ -206,6 +212,7 @@ module _ (setting : Setting) (complete : AreComplete setting.scope setting.types
             (inner_known fun.result (names_of_written fun.result result_rules) result_numbered)
             (stmt_known number fun (param_variables setting fun.params) fun.body body_rules body_numbered));
         first = params_first setting fun.params (each_first Holds of_params (of_result ++ (of_body ++ of_return)) each) of_all.0;
+        own = is_false _ (each_rest Holds of_body of_return (each_rest Holds of_result (of_body ++ of_return) rest_rules)).1.0;
         returned = returned_type setting fun (end_variables setting fun)
             (each_rest Holds of_body of_return (each_rest Holds of_result (of_body ++ of_return) rest_rules)) (written_known fun.result result_rules result_numbered);
       }

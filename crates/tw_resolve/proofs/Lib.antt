@@ -15,6 +15,7 @@ pub mod Trying
 pub mod Ending
 pub mod Known
 pub mod InOrder
+pub mod Locals
 pub mod Collecting
 pub mod Numbered
 pub mod NameRules
@@ -29,6 +30,7 @@ pub mod Sets
 pub mod Stacks
 pub mod Steps
 pub mod TargetTypes
+pub mod Texts
 pub mod TextOrder
 pub mod Visiting
 pub mod WellTyped

@@ -22,6 +22,9 @@ variables = list.is_set (hlevel (names, types))
 pub found_types : IsSet (Option Ty)
 found_types = hlevel (types, ⊎_set)
 
+pub found_variable : IsSet (Option (Name × Ty))
+found_variable = hlevel (names, types, ⊎_set)
+
 pub found_names : IsSet (Option (List Name))
 found_names = hlevel (list.is_set names, ⊎_set)
 

@@ -17,6 +17,7 @@ use Rattle.tw_resolve.specs.Setting.{Setting, type_of}
 use Rattle.tw_resolve.proofs.AtPlaces.{found_next}
 use Rattle.tw_resolve.proofs.Each.{each_at}
 use Rattle.tw_resolve.proofs.Entries.{position-map}
+use Rattle.tw_resolve.proofs.Texts.{bytes_eq-sym}
 
 -- the type of the last target is set
 defined_last : (targets : List Target) (text : List ℕ) (ty : Ty)
@@ -35,11 +36,6 @@ added old middle new text ty id none is place made =
   where
     one : {x y : ℕ} → Some x ≡ Some y → x ≡ y
     one same = cc same
-
-bytes_eq-sym : (x y : List ℕ) → bytes_eq x y ≡ bytes_eq y x
-bytes_eq-sym x y =
-    same_from_decides (bytes_eq x y) (bytes_eq y x) (bytes_eq-Decides x y)
-    ((λ is. sym ((bytes_eq-Decides y x).0 is)), (λ same. (bytes_eq-Decides y x).1 (sym same)))
 
 -- two targets have one text
 abbrev alike : WrittenTree → WrittenTree → Bool

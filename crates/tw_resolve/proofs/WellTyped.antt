@@ -5,10 +5,11 @@ use Rattle.tw_syntax.specs.Programs.{ProgramTree}
 use Rattle.tw_resolve.specs.declared.tables.Tables.{Tables}
 use Rattle.tw_resolve.specs.Declarations.{aliases_of, funs_of, decl_targets, targets_of}
 use Rattle.tw_resolve.specs.Demands.{Demand}
+use Rattle.tw_resolve.specs.Expressions.{texts_of}
 use Rattle.tw_resolve.specs.Programs.{end_variables, variable_names, alias_rules, funs_rules, type_rules}
 use Rattle.tw_resolve.specs.Setting.{Setting, IsKnown}
 use Rattle.tw_resolve.specs.Tables.{AreTypedTablesOf, program_setting, setting_in}
-use Rattle.tw_resolve.proofs.Assigned.{funs_named, names_in}
+use Rattle.tw_resolve.proofs.Assigned.{funs_named}
 use Rattle.tw_resolve.proofs.Demands.{Holds, EachHolds, none_broken-each}
 use Rattle.tw_resolve.proofs.Each.{each_first, each_rest, each_weaker}
 use Rattle.tw_resolve.proofs.Known.{IsKnownFun, aliases_known, funs_known, targets_known}
@@ -37,7 +38,7 @@ module _ (program : ProgramTree) (tables : Tables) (are : AreTypedTablesOf progr
   all_funs = funs_known setting are.complete 0 (funs_of program.decls) (each_rest Holds of_aliases of_funs each) (funs_numbered program)
 
   -- its variables are its parameters and all targets of its assignments
-  pub all_named : AllByRecursion (λ fun. names_in (end_variables setting fun) ≡ variable_names fun) (funs_of program.decls)
+  pub all_named : AllByRecursion (λ fun. texts_of (end_variables setting fun) ≡ variable_names fun) (funs_of program.decls)
   all_named =
       funs_named setting are.complete (each_weaker (IsKnownFun setting) (λ fun. IsKnown setting fun.result) (λ fun here. here.result) (funs_of program.decls) all_funs)
       0 (funs_of program.decls) (each_rest Holds of_aliases of_funs each) (funs_numbered program) all_funs

@@ -1,5 +1,6 @@
 -- The declarations of a program: its aliases, its functions, and the targets of its pointers.
 use Rattle.std.specs.Prelude.{◌≡◌, ℕ, Bool, false, ◌||◌, if◌then◌else◌, List, [], ◌∷◌, ◌++◌, flat_map, fold, Option, Some, None, position, is_some, codes, refl}
+use Rattle.std.specs.List.{AllByRecursion}
 use Rattle.std.specs.Str.{bytes_eq}
 use Rattle.tw_syntax.specs.Examples.{place}
 use Rattle.tw_syntax.specs.Programs.{FunTree, AliasTree, DeclTree, AliasDecl, FunDecl, ProgramTree}
@@ -15,6 +16,11 @@ Name = List ℕ
 abbrev pub is_one_of : Name → List Name → Bool
 is_one_of name [] = false
 is_one_of name (first ∷ rest) = bytes_eq name first || is_one_of name rest
+
+-- names of which no two are equal
+abbrev pub AreDifferent : List Name → Type 0
+AreDifferent [] = Unit {0}
+AreDifferent (name ∷ names) = AllByRecursion (λ other. bytes_eq name other ≡ false) names × AreDifferent names
 
 -- the aliases, in order
 abbrev pub aliases_of : List DeclTree → List AliasTree

@@ -1,5 +1,5 @@
 -- The types of paths, atoms, expressions and right sides, and their rules.
-use Rattle.std.specs.Prelude.{ℕ, zero, suc, ◌^◌, ◌-◌, Bool, true, false, not, ◌&&◌, ◌||◌, ◌==◌, ltb, List, [], ◌∷◌, ◌++◌, length, slice_get, Option, Some, None, is_some, option_and_then}
+use Rattle.std.specs.Prelude.{ℕ, zero, suc, ◌^◌, ◌-◌, Bool, true, false, not, ◌&&◌, ◌||◌, ◌==◌, ltb, List, [], ◌∷◌, ◌++◌, length, map, slice_get, Option, Some, None, is_some, option_and_then}
 use Rattle.std.proofs.Math.Bool.{beq}
 use Rattle.std.specs.Map.{lookup}
 use Rattle.std.specs.Str.{bytes_eq}
@@ -17,6 +17,10 @@ use Rattle.tw_resolve.specs.Setting.{Setting, type_of, pointer_to, pair_of, size
 -- the variables that are declared so far, with their types, in the order of their declarations
 abbrev pub Variables : Type 0
 Variables = List (Name × Ty)
+
+-- the names of variables
+abbrev pub texts_of : Variables → List Name
+texts_of variables = map (λ variable. variable.0) variables
 
 -- the type of a variable
 abbrev pub variable_type : Variables → Name → Option Ty

@@ -16,3 +16,4 @@ pub mod Searches
 pub mod Reaching
 pub mod Checked
 pub mod Resolved
+pub mod Examples

@@ -1,6 +1,7 @@
 -- Well-typed programs, and the refusals of the others.
-use Rattle.std.specs.Prelude.{◌≡◌, ◌⊎◌, ℕ, suc, not, if◌then◌else◌, List, [], ◌∷◌, ◌++◌, map, flat_map, fold, Option, Some, None, is_some}
+use Rattle.std.specs.Prelude.{◌≡◌, ◌⊎◌, ℕ, suc, Bool, not, ◌||◌, if◌then◌else◌, filter, List, [], ◌∷◌, ◌++◌, map, flat_map, fold, Option, Some, None, is_some}
 use Rattle.std.specs.List.{AllByRecursion}
+use Rattle.std.specs.Str.{bytes_eq}
 use Rattle.tw_text.specs.declared.refusal.Fault.{Fault}
 use Rattle.tw_text.specs.declared.refusal.Fault.TheVariants as fault
 use Rattle.tw_text.specs.declared.refusal.Refusal.{Refusal}
@@ -60,6 +61,14 @@ with_new names name = if is_one_of name names then names else names ++ name ∷ 
 -- the names of the variables of a function: its parameters, and then the targets of its assignments, each where it first appears
 abbrev pub variable_names : FunTree → List Name
 variable_names fun = fold with_new (map (λ param. param.name.text) fun.params) (assigned fun.body)
+
+-- whether a variable is local: neither a parameter nor returned
+abbrev pub is_local : FunTree → Name × Ty → Bool
+is_local fun variable = not (is_one_of variable.0 (map (λ param. param.name.text) fun.params) || bytes_eq variable.0 fun.returned.text)
+
+-- the local variables of a function, in order
+abbrev pub local_variables : Setting → FunTree → Variables
+local_variables setting fun = filter (is_local fun) (end_variables setting fun)
 
 -- the rules of the function of this number, in text order
 abbrev pub fun_rules : Setting → ℕ → FunTree → List Demand

@@ -1,13 +1,13 @@
 -- What a resolved program tells of its functions.
-use Rattle.std.specs.Prelude.{ℕ, List, slice_get, Option, option_map, option_and_then}
+use Rattle.std.specs.Prelude.{ℕ, List, [], slice_get, Option, Some, None, option_map, option_and_then}
 use Rattle.tw_syntax.specs.Names.{PathTree}
-use Rattle.tw_syntax.specs.Programs.{ParamTree, program_tree}
+use Rattle.tw_syntax.specs.Programs.{FunTree, ParamTree, program_tree}
 use Rattle.tw_types.specs.Types.{Ty}
 use Rattle.tw_resolve.specs.declared.resolved.Resolved.{Resolved}
 use Rattle.tw_resolve.specs.Declarations.{Name}
 use Rattle.tw_resolve.specs.Setting.{Setting, type_of}
 use Rattle.tw_resolve.specs.Expressions.{Variables, variable_type, path_type, params_of}
-use Rattle.tw_resolve.specs.Programs.{end_variables, variable_names}
+use Rattle.tw_resolve.specs.Programs.{end_variables, local_variables, variable_names}
 use Rattle.tw_resolve.specs.Tables.{program_setting}
 
 -- the setting of a resolved program
@@ -33,6 +33,14 @@ variables_at setting number = option_map (end_variables setting) (slice_get sett
 -- the names of its variables
 abbrev pub variable_names_at : Setting → ℕ → Option (List Name)
 variable_names_at setting number = option_map variable_names (slice_get setting.funs number)
+
+-- its local variables
+abbrev pub locals_of : Setting → Option FunTree → Variables
+locals_of setting None = []
+locals_of setting (Some fun) = local_variables setting fun
+
+abbrev pub locals_at : Setting → ℕ → Variables
+locals_at setting number = locals_of setting (slice_get setting.funs number)
 
 -- the type of one of its variables, by name
 abbrev pub type_at : Setting → ℕ → Name → Option Ty

@@ -163,7 +163,19 @@ fn has_param(resolved: &Resolved<'_>, number: usize, ty: Ty<'_>) -> bool {
     same_ty(&resolved.param_type(0, number), &ty)
 }
 
-/// Whether the variables, the parameters and the result of the first function are as they should be.
+/// Whether the local variable of this number of the first function has this name and this type.
+fn has_local(resolved: &Resolved<'_>, number: usize, name: &str, ty: Ty<'_>) -> bool {
+    if resolved.fun_count() == 0 {
+        return false;
+    }
+    if number >= resolved.local_count(0) {
+        return false;
+    }
+    let (text, found) = resolved.local(0, number);
+    text == name && same_ty(&found, &ty)
+}
+
+/// Whether the variables, the parameters and the local variable of the first function are as they should be.
 fn has_variables(resolved: &Resolved<'_>) -> bool {
     let item = Ty::Pair(&Ty::Uint, &TO_ITEM);
     has_variable(resolved, 0, "i", item)
@@ -172,6 +184,8 @@ fn has_variables(resolved: &Resolved<'_>) -> bool {
         && has_variable(resolved, 3, "y", Ty::Uint)
         && has_param(resolved, 0, item)
         && has_param(resolved, 1, Ty::Bool)
+        && has_local(resolved, 0, "p", TO_ITEM)
+        && !has_local(resolved, 1, "y", Ty::Uint)
 }
 
 /// Whether the variables of both functions have their types by name.

@@ -1,7 +1,9 @@
 //! The variables of a function.
-ghost use Rattle.std.specs.Prelude.{◌≡◌, ◌<◌, [], Some, length, slice_get, OnOk, option_map};
+ghost use Rattle.std.specs.Prelude.{◌≡◌, ◌<◌, [], Some, is_some, length, position, slice_get, OnOk, option_map};
+ghost use Rattle.std.specs.Str.{bytes_eq};
 ghost use Rattle.tw_types.specs.FromCode.{ty_of};
-ghost use Rattle.tw_resolve.specs.Expressions.{variable_type};
+ghost use Rattle.tw_resolve.specs.Declarations.{AreDifferent};
+ghost use Rattle.tw_resolve.specs.Expressions.{texts_of, variable_type};
 ghost use Rattle.tw_resolve.specs.Statements.{with_variable};
 ghost use Rattle.tw_resolve.specs.Variables.{variables_in};
 
@@ -39,6 +41,15 @@ impl<'a> Variables<'a> {
     {
         let (name, ty) = self.table.get_index(number).unwrap();
         (name, *ty)
+    }
+
+    /// The number of a variable. Different variables have different names.
+    pub fn number_of(&self, name: &str) -> Option<usize>
+        ensures place { result ≡ position (bytes_eq name.now) (texts_of (variables_in self.now.table.entries)) }
+        ensures there { is_some result ≡ is_some (variable_type (variables_in self.now.table.entries) name.now) }
+        ensures different { AreDifferent (texts_of (variables_in self.now.table.entries)) }
+    {
+        self.table.get_index_of(name)
     }
 
     /// The type of a variable.

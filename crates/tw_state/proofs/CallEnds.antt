@@ -13,7 +13,7 @@ use Rattle.tw_types.specs.Values.{Value, zero_value}
 use Rattle.tw_resolve.specs.Declarations.{is_one_of, number_of}
 use Rattle.tw_resolve.specs.Expressions.{Types, fun_named}
 use Rattle.tw_resolve.specs.Setting.{Setting}
-use Rattle.tw_resolve.proofs.Declaring.{bytes_eq-sym}
+use Rattle.tw_resolve.proofs.Texts.{bytes_eq-sym}
 use Rattle.tw_check.specs.Names.{Names}
 use Rattle.tw_check.specs.Liveness.{texts, param_names, live_at_start, live_at_end}
 use Rattle.tw_check.specs.Reverse.{reverse_of}

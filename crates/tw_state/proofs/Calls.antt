@@ -7,7 +7,7 @@ use Rattle.tw_syntax.specs.Programs.{ParamTree, FunTree}
 use Rattle.tw_resolve.specs.Declarations.{is_one_of}
 use Rattle.tw_resolve.specs.Expressions.{fun_named}
 use Rattle.tw_resolve.specs.Setting.{Setting}
-use Rattle.tw_resolve.proofs.Declaring.{bytes_eq-sym}
+use Rattle.tw_resolve.proofs.Texts.{bytes_eq-sym}
 use Rattle.tw_check.specs.Liveness.{param_names}
 use Rattle.tw_check.specs.Reverse.{reverse_of}
 use Rattle.tw_state.specs.States.{Name, Store, State}

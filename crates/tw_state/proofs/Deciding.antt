@@ -12,7 +12,7 @@ use Rattle.tw_types.specs.Values.{Value, UnitValue, Number, Truth, Address, Pair
 use Rattle.tw_resolve.specs.Declarations.{is_one_of}
 use Rattle.tw_resolve.specs.Expressions.{Types}
 use Rattle.tw_resolve.specs.Setting.{Setting}
-use Rattle.tw_resolve.proofs.Declaring.{bytes_eq-sym}
+use Rattle.tw_resolve.proofs.Texts.{bytes_eq-sym}
 use Rattle.tw_check.specs.Names.{Names}
 use Rattle.tw_check.specs.Liveness.{live_after, names_of}
 use Rattle.tw_check.proofs.NameSets.{on_or_off, names_differ}

@@ -8,7 +8,7 @@ use Rattle.tw_types.specs.Types.{Ty}
 use Rattle.tw_types.specs.Values.{Value}
 use Rattle.tw_resolve.specs.Declarations.{is_one_of}
 use Rattle.tw_resolve.specs.Setting.{Setting}
-use Rattle.tw_resolve.proofs.Declaring.{bytes_eq-sym}
+use Rattle.tw_resolve.proofs.Texts.{bytes_eq-sym}
 use Rattle.tw_check.specs.Names.{Names}
 use Rattle.tw_check.specs.Liveness.{texts, live_after}
 use Rattle.tw_check.specs.Right.{IsOperand, Right, RightNothing, RightThen, RightLet, RightUnlet, RightSwap, RightMemSwap, RightIf, RightIfElse, RightWith, RightBlock, RightSkip}

@@ -9,7 +9,7 @@ use Rattle.tw_types.specs.Values.{Value}
 use Rattle.tw_resolve.specs.Declarations.{is_one_of}
 use Rattle.tw_resolve.specs.Expressions.{Types, fun_named}
 use Rattle.tw_resolve.specs.Setting.{Setting}
-use Rattle.tw_resolve.proofs.Declaring.{bytes_eq-sym}
+use Rattle.tw_resolve.proofs.Texts.{bytes_eq-sym}
 use Rattle.tw_check.specs.Names.{Names, with_name}
 use Rattle.tw_check.specs.Liveness.{live_after, texts, param_names, live_at_start, live_at_end}
 use Rattle.tw_check.specs.Right.{IsOperand, IsRight, Right, RightNothing, RightThen, RightLet, RightUnlet, RightSwap, RightMemSwap, RightIf, RightIfElse, RightWith, RightBlock, RightSkip}

@@ -6,7 +6,7 @@ use Rattle.std.proofs.lemmas.Bool.{or_parts}
 use Rattle.tw_syntax.specs.Names.{PathTree}
 use Rattle.tw_types.specs.Values.{Value, UnitValue, Number, Truth, Address, PairValue}
 use Rattle.tw_check.specs.Right.{is_prefix, overlap}
-use Rattle.tw_resolve.proofs.Declaring.{bytes_eq-sym}
+use Rattle.tw_resolve.proofs.Texts.{bytes_eq-sym}
 use Rattle.tw_state.specs.States.{Name, Store}
 use Rattle.tw_state.specs.Parts.{part_of, with_part, value_at, with_value_at}
 use Rattle.tw_state.proofs.Basics.{some_value, same_some, by_test, same_name, name_test, contradiction}

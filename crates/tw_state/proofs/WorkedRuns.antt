@@ -10,7 +10,7 @@ use Rattle.tw_syntax.specs.Terms.{LessBound, SameBound, ExprRhs, CallRhs, NotExp
 use Rattle.tw_syntax.specs.Types.{BoolType}
 use Rattle.tw_types.specs.Types.{Boolean}
 use Rattle.tw_types.specs.Values.{Value, Number, Truth, Address, PairValue}
-use Rattle.tw_resolve.proofs.Declaring.{bytes_eq-sym}
+use Rattle.tw_resolve.proofs.Texts.{bytes_eq-sym}
 use Rattle.tw_check.specs.Names.{Names, with_name}
 use Rattle.tw_check.proofs.NameSets.{with_name-back}
 use Rattle.tw_state.specs.States.{Name, Free, Live, Store, State, empty, with_value}

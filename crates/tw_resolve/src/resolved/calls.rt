@@ -1,11 +1,12 @@
 //! The types of the targets, functions and variables of a well-typed program.
-ghost use Rattle.std.specs.Prelude.{◌≡◌, ◌<◌, Some, is_some, length, map, option_map, IfOk};
+ghost use Rattle.std.specs.Prelude.{◌≡◌, ◌<◌, Some, is_some, length, option_map, slice_get, IfOk};
 ghost use Rattle.tw_syntax.specs.Names.{path_tree};
 ghost use Rattle.tw_syntax.specs.Programs.{program_tree};
 ghost use Rattle.tw_syntax.specs.Types.{written_tree};
 ghost use Rattle.tw_types.specs.FromCode.{ty_of};
 ghost use Rattle.tw_resolve.specs.Declarations.{funs_of, is_one_of};
-ghost use Rattle.tw_resolve.specs.Resolved.{param_type_at, params_at, path_type_at, resolved_setting, result_at, type_at, variable_names_at, variables_at};
+ghost use Rattle.tw_resolve.specs.Expressions.{texts_of};
+ghost use Rattle.tw_resolve.specs.Resolved.{locals_at, param_type_at, params_at, path_type_at, resolved_setting, result_at, type_at, variable_names_at, variables_at};
 ghost use Rattle.tw_resolve.specs.Setting.{type_of};
 ghost use Rattle.tw_resolve.specs.Tables.{AreTargets};
 ghost use Rattle.tw_resolve.specs.Variables.{variables_in};
@@ -32,7 +33,7 @@ impl<'a> Resolved<'a> {
     pub fn variables(&self, number: usize) -> &Variables<'a>
         requires { number < length (funs_of (program_tree self.now.program.now).decls) }
         ensures types { variables_at (resolved_setting self.now) number ≡ Some (variables_in result.now.table.entries) }
-        ensures names { variable_names_at (resolved_setting self.now) number ≡ Some (map (λ variable. variable.0) (variables_in result.now.table.entries)) }
+        ensures names { variable_names_at (resolved_setting self.now) number ≡ Some (texts_of (variables_in result.now.table.entries)) }
     {
         &self.variables[number]
     }
@@ -72,6 +73,38 @@ impl<'a> Resolved<'a> {
     {
         let fun = self.fun_at(number);
         self.type_of(number, fun.returned.text).unwrap()
+    }
+
+    /// The number of local variables of the function of this number: of those that are neither parameters nor returned.
+    /// There are more functions.
+    pub fn local_count(&self, number: usize) -> usize
+        requires { number < length (funs_of (program_tree self.now.program.now).decls) }
+        ensures { result ≡ length (locals_at (resolved_setting self.now) number) }
+    {
+        let fun = self.fun_at(number);
+        let variables = self.variables(number);
+        variables.number_of(fun.returned.text).unwrap();
+        variables.len() - fun.params.len() - 1
+    }
+
+    /// The name and the type of the local variable at this place of the function of this number. There are more functions, and it
+    /// has more local variables.
+    pub fn local(&self, number: usize, place: usize) -> (&'a str, Ty<'a>)
+        requires function { number < length (funs_of (program_tree self.now.program.now).decls) }
+        requires local { place < length (locals_at (resolved_setting self.now) number) }
+        ensures { slice_get (locals_at (resolved_setting self.now) number) place ≡ Some (result.0.now, ty_of result.1) }
+    {
+        let fun = self.fun_at(number);
+        let variables = self.variables(number);
+        let returned = variables.number_of(fun.returned.text).unwrap();
+        // The length is a `usize`, so no place overflows.
+        prove!(place < variables.len());
+        let at = fun.params.len() + place;
+        if at < returned {
+            variables.at(at)
+        } else {
+            variables.at(at + 1)
+        }
     }
 
     /// The type that a written type denotes. `None` if it holds a name that is not declared, or a pointer to a type that is no target
