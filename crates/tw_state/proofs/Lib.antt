@@ -30,3 +30,4 @@ pub mod RenamedResults
 pub mod WorkedRuns
 pub mod Known
 pub mod SoundExpressions
+pub mod SoundStatements
