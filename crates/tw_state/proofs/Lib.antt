@@ -31,3 +31,4 @@ pub mod WorkedRuns
 pub mod Known
 pub mod SoundExpressions
 pub mod SoundStatements
+pub mod SoundPrograms

@@ -69,7 +69,7 @@ pub record HeadKnown (setting : Setting) (fun : FunTree) : Type 0 where
   pub params : AllByRecursion (λ param. (ty : Ty) × (type_of setting param.ty ≡ Some ty)) fun.params
 
 -- a name after those that came before differs from them
-later : (earlier : List Name) (name : Name) (rest : List Name) → is_one_of name earlier ≡ false → ((other : Name) → is_one_of other (earlier ++ name ∷ []) ≡ true → is_one_of other rest ≡ false)
+pub later : (earlier : List Name) (name : Name) (rest : List Name) → is_one_of name earlier ≡ false → ((other : Name) → is_one_of other (earlier ++ name ∷ []) ≡ true → is_one_of other rest ≡ false)
     → (is_one_of name rest ≡ false) × ((other : Name) → is_one_of other earlier ≡ true → is_one_of other (name ∷ rest) ≡ false)
 later earlier name rest new deeper = (
   deeper name (is_one_of-append name earlier (name ∷ []) ∙ last name (is_one_of name earlier) (name_test name)),
