@@ -35,7 +35,7 @@ module _ {A : Type 0} where
   set_all P (y ∷ xs) zero x h all = (h, all.1)
   set_all P (y ∷ xs) (suc i) x h all = (all.0, set_all P xs i x h all.1)
 
-  get_all : (P : A → Type 0) (xs : List A) (i : ℕ) (x : A) → AllByRecursion P xs → slice_get xs i ≡ Some x → P x
+  pub get_all : (P : A → Type 0) (xs : List A) (i : ℕ) (x : A) → AllByRecursion P xs → slice_get xs i ≡ Some x → P x
   get_all P [] i x all found = absurd (none-some x found)
   get_all P (y ∷ xs) zero x all found = subst P (found_value found) all.0
     where

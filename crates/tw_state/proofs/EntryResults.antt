@@ -1,5 +1,5 @@
 -- The result of an entry: it is determined, it determines the state, and a state without one is stuck, forward and backward.
-use Rattle.std.proofs.Common.{◌≡◌, ◌∙◌, refl, sym, ap, subst, ℕ, Bool, true, false, ◌⊎◌, inl, inr, Option, Some, None, option_map}
+use Rattle.std.proofs.Common.{◌≡◌, ◌∙◌, refl, sym, ap, subst, ℕ, Bool, true, false, ◌⊎◌, inl, inr, ⊎_elim, Option, Some, None, option_map}
 use Rattle.tw_text.specs.declared.place.Pos.{Pos}
 use Rattle.tw_text.specs.Places.{first_place}
 use Rattle.tw_syntax.specs.Programs.{FunTree}
@@ -46,6 +46,10 @@ pub record IsFunction (setting : Setting) (fun : FunTree) : Type 0 where
   pub number : ℕ
   pub numbered : number_of setting.funs name ≡ Some number
   pub named : fun_named setting name ≡ Some fun
+
+-- one of two holds, and not both
+abbrev pub ExactlyOne : Type 0 → Type 0 → Type 0
+ExactlyOne A B = (A × (B → ⊥)) ⊎ (B × (A → ⊥))
 
 module _ (setting : Setting) (sound : IsSound setting) (fun : FunTree) (is : IsFunction setting fun) (bound : Option ℕ) where
   fits : FunFits setting fun
@@ -204,3 +208,15 @@ module _ (setting : Setting) (sound : IsSound setting) (fun : FunTree) (is : IsF
   entry_one_reason (SticksBody n running a) (SticksNoBody held result none cleared adds differ) = not_both none running
   entry_one_reason (SticksNoBody held result none cleared adds differ) (SticksBody n running a) = not_both none running
   entry_one_reason (SticksNoBody held result none cleared adds differ) (SticksNoBody held2 result2 none2 cleared2 adds2 differ2) = (refl, refl)
+
+  -- forward: exactly one of a result, and a reason and a place
+  pub exactly_one : {x : State} → IsWellFormed x → IsTypedAt setting fun (live_at_start fun) x
+      → ExactlyOne ((y : State) × HasResult setting fun bound x y) ((reason : Reason) × (place : Pos) × SticksEntry setting fun bound true x reason place)
+  exactly_one formed start =
+      ⊎_elim (λ has. inl (has, λ stuck. stuck_has_no_result stuck.2 has.1)) (λ stuck. inr (stuck, λ has. stuck_has_no_result stuck.2 has.1)) (entry_ends formed start)
+
+  -- backward: exactly one of a state with this result, and a reason and a place
+  pub exactly_one_back : {y : State} → IsWellFormed y → IsTypedAt setting fun (live_at_end fun) y
+      → ExactlyOne ((x : State) × HasResult setting fun bound x y) ((reason : Reason) × (place : Pos) × SticksEntry setting fun bound false y reason place)
+  exactly_one_back formed end =
+      ⊎_elim (λ has. inl (has, λ stuck. stuck_is_no_result stuck.2 has.1)) (λ stuck. inr (stuck, λ has. stuck_is_no_result stuck.2 has.1)) (entry_ends_back formed end)

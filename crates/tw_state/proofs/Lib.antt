@@ -30,3 +30,5 @@ pub mod RenamedResults
 pub mod WorkedRuns
 pub mod Known
 pub mod SoundExpressions
+pub mod SoundStatements
+pub mod SoundPrograms

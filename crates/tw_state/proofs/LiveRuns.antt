@@ -242,3 +242,7 @@ module _ (setting : Setting) (funs : FunsFit setting) (rights : FunsRight settin
   lives fits (RightLet {target = target} r) (RunsAllocNone none a) live = live_added a ∙ ap (λ (l : Names). with_name l target.text true) live ∙ sym r.after
   lives fits (RightUnlet r) (RunsFree block a t) live = sym (ap (λ (s : State). live_names s.store) t.after) ∙ live_removed r.dead (live ∙ r.after) a
   lives fits (RightUnlet r) (RunsFreeNone none a) live = live_removed r.dead (live ∙ r.after) a
+
+  -- the live names after a right statement are those that the rules of reversibility compute
+  pub live_after_runs : {act : Activation} {s : StmtTree} {x y : State} {held after : Names} → StmtFits setting act.types s → Right held s (live_names x.store) after → Runs setting act s x y → live_names y.store ≡ live_after true s (live_names x.store)
+  live_after_runs fits right runs = lives fits right runs refl ∙ sym (right_ends right)

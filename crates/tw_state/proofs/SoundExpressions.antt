@@ -72,9 +72,9 @@ pub record TypesKnown (setting : Setting) : Type 0 where
   pub denoted : (written : WrittenTree) → IsResolved setting.scope written → (ty : Ty) × (type_of setting written ≡ Some ty)
   pub known : (written : WrittenTree) (ty : Ty) → type_of setting written ≡ Some ty → IsKnown setting ty
 
-module _ (setting : Setting) (types_known : TypesKnown setting) where
+module _ (setting : Setting) where
   -- the names in a written type are declared
-  names_if_kept : (written : WrittenTree) → EachHolds (part_rules setting written) → names_declared setting.scope.declared written ≡ true
+  pub names_if_kept : (written : WrittenTree) → EachHolds (part_rules setting written) → names_declared setting.scope.declared written ≡ true
   names_if_kept (UnitType at) each = refl
   names_if_kept (UintType at) each = refl
   names_if_kept (BoolType at) each = refl
@@ -90,10 +90,11 @@ module _ (setting : Setting) (types_known : TypesKnown setting) where
   resolved_if_kept written each numbered =
       record { names = names_if_kept written (each_rest Holds (size_rules setting (written_place written) (type_of setting written)) (part_rules setting written) each); targets = numbered }
 
+module _ (setting : Setting) (types_known : TypesKnown setting) where
   -- a pointer to a type whose names are declared
   pub pointer_known : (to : WrittenTree) → EachHolds (written_rules setting to) → AllByRecursion (IsNumbered setting.scope.targets) (to ∷ targets_in to) → (number : ℕ) × (target_number setting.scope.targets to ≡ Some number) × (pointer_to setting.scope to ≡ Some (Pointer number))
   pointer_known to each numbered =
-      let resolved = resolved_if_kept to each numbered.1 in
+      let resolved = resolved_if_kept setting to each numbered.1 in
       let number = is_there (target_number setting.scope.targets to) numbered.0 in
       (number.0, number.1, ap (λ k. if k then option_map Pointer (target_number setting.scope.targets to) else None) resolved.names ∙ ap (option_map Pointer) number.1)
 
@@ -169,7 +170,7 @@ module _ (setting : Setting) (types_known : TypesKnown setting) where
           known = types_known.known (PtrType at to) (Pointer p.0) p.2;
         }
     atom_sound needed (ZeroAtom at written) each numbered =
-        let found = types_known.denoted written (resolved_if_kept written each.1 numbered) in
+        let found = types_known.denoted written (resolved_if_kept setting written each.1 numbered) in
         record {
           ty = found.0;
           is = found.1;

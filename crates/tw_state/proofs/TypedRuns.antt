@@ -20,6 +20,7 @@ use Rattle.tw_state.proofs.Basics.{some_value, same_some, by_test, same_name, na
 use Rattle.tw_state.proofs.Blocks.{cell_all, cell_has, cell_length}
 use Rattle.tw_state.proofs.Parts.{value_other}
 use Rattle.tw_state.proofs.SingleSteps.{same_target, added, added_others, taken_from}
+use Rattle.tw_state.proofs.Undone.{undone}
 use Rattle.tw_state.proofs.Calls.{AreDifferent, inner, outer, unseen, links_different}
 use Rattle.tw_state.proofs.TypedTrees.{ArgsFit, AllocFits, StmtFits, reverse_fits, ParamFits, FunFits, FunsFit}
 use Rattle.tw_state.proofs.TypedValues.{StoreFits, fits_typed, typed_fits, value_at_typed, with_value_at_typed, expr_typed}
@@ -239,3 +240,7 @@ module _ (setting : Setting) (funs : FunsFit setting) where
   typed_after fits (RunsFree block a t) typed =
       typed_freed setting (added_typed setting (Pointer fits.2.target) (fits.1 ∙ ap Some fits.2.pointer) a typed) t (typed_removed setting a typed)
   typed_after fits (RunsFreeNone none a) typed = typed_removed setting a typed
+
+  -- backward as well
+  pub typed_before : {act : Activation} {s : StmtTree} {x y : State} → StmtFits setting act.types s → Runs setting act s x y → IsTypedIn setting act.types y → IsTypedIn setting act.types x
+  typed_before {act} {s} fits runs typed = typed_after (reverse_fits setting act.types s fits) (undone setting runs) typed
