@@ -1,7 +1,7 @@
 -- A well-typed program whose functions are right is sound: the laws of entries hold for it.
-use Rattle.std.proofs.Common.{◌≡◌, ◌∙◌, ◌+◌, refl, sym, ap, subst, arith, ℕ, zero, suc, Bool, true, false, ◌||◌, if◌then◌else◌, List, [], ◌∷◌, ◌++◌, map, flat_map, fold, slice_get, Option, Some, None, is_some, option_and_then, bytes_eq}
+use Rattle.std.proofs.Common.{◌≡◌, ◌∙◌, ◌+◌, refl, sym, ap, subst, arith, ℕ, zero, suc, Bool, true, false, if◌then◌else◌, List, [], ◌∷◌, ◌++◌, map, flat_map, fold, slice_get, Option, Some, None, is_some, option_and_then, bytes_eq}
 use Rattle.std.specs.List.{AllByRecursion}
-use Rattle.std.proofs.lemmas.Bool.{and_parts, not-true}
+use Rattle.std.proofs.lemmas.Bool.{and_parts, or_parts, not-true}
 use Rattle.std.proofs.lemmas.Option.{none-some}
 use Rattle.tw_text.specs.declared.refusal.Rule.TheVariants as rule
 use Rattle.tw_syntax.specs.Programs.{ParamTree, FunTree, DeclTree, AliasDecl, FunDecl, ProgramTree}
@@ -13,26 +13,28 @@ use Rattle.tw_resolve.specs.AliasTypes.{IsNumbered, IsResolved, IsResolvedAlias}
 use Rattle.tw_resolve.specs.Declarations.{Name, is_one_of, aliases_of, funs_of, declared_as, number_of, target_number, targets_in, with_target, atom_targets, expr_targets, rhs_targets, stmt_targets, decl_targets, targets_of}
 use Rattle.tw_resolve.specs.Demands.{demand}
 use Rattle.tw_resolve.specs.Denotes.{names_declared, scope_of}
-use Rattle.tw_resolve.specs.Expressions.{Variables, atom_type, expr_type, rhs_type, left_type, right_type, fun_named, path_rules, atom_rules, expr_rules, rhs_rules}
+use Rattle.tw_resolve.specs.Expressions.{Types, Variables, variable_type, atom_type, expr_type, rhs_type, left_type, right_type, fun_named, path_rules, atom_rules, expr_rules, rhs_rules}
 use Rattle.tw_resolve.specs.Names.{name_rules, different_rules, aliases_rules, alias_names, fun_names}
-use Rattle.tw_resolve.specs.Programs.{IsTyped, setting_of, alias_rules, param_rules, params_rules, param_variables, return_rules, end_variables, fun_rules, funs_rules, type_rules}
+use Rattle.tw_resolve.specs.Programs.{IsTyped, setting_of, alias_rules, param_rules, params_rules, with_param, param_variables, return_rules, end_variables, fun_rules, funs_rules, type_rules}
 use Rattle.tw_resolve.specs.Setting.{Setting, type_of, size_rules, written_rules, fits}
 use Rattle.tw_resolve.specs.Statements.{variables_after, stmt_rules}
-use Rattle.tw_resolve.proofs.Declaring.{bytes_eq-sym}
+use Rattle.tw_resolve.proofs.Texts.{bytes_eq-sym}
 use Rattle.tw_resolve.proofs.Demands.{Holds, EachHolds, none_broken-each}
 use Rattle.tw_resolve.proofs.Denoting.{type_of-denotes, denotes-type_of}
 use Rattle.tw_resolve.proofs.Each.{each_first, each_rest, each-append}
+use Rattle.tw_resolve.specs.Setting as Denoting
+use Rattle.tw_resolve.proofs.Params.{params_first}
 use Rattle.tw_resolve.proofs.Numbered.{all_numbered, aliases_resolved}
 use Rattle.tw_check.specs.Right.{IsRight}
-use Rattle.tw_check.proofs.NameSets.{names_differ}
+use Rattle.tw_state.specs.Steps.{fun_types}
 use Rattle.tw_state.proofs.Basics.{some_value, by_option, name_test}
 use Rattle.tw_state.proofs.Blocks.{get_all}
 use Rattle.tw_state.proofs.Calls.{AreDifferent}
-use Rattle.tw_state.proofs.Known.{IsKnown, known, known_denoted}
+use Rattle.tw_state.proofs.Known.{known, known_denoted}
 use Rattle.tw_state.proofs.TypedTrees.{ParamFits, FunFits}
 use Rattle.tw_state.proofs.CallEnds.{StmtDescends}
-use Rattle.tw_state.proofs.SoundExpressions.{TypesKnown, is_there, fits_equal, resolved_if_kept}
-use Rattle.tw_state.proofs.SoundStatements.{HeadKnown, AreKnown, grows_after, later, stmt_sound}
+use Rattle.tw_state.proofs.SoundExpressions.{TypesKnown, Grows, is_there, fits_equal, resolved_if_kept}
+use Rattle.tw_state.proofs.SoundStatements.{HeadKnown, AreKnown, with_known, grows_after, later, stmt_sound}
 use Rattle.tw_state.proofs.EntryResults.{IsSound}
 
 module _ (setting : Setting) where
@@ -100,9 +102,9 @@ module _ (setting : Setting) where
   stmt_resolved number caller (Else at stmts) variables each numbered = stmt_resolved number caller stmts variables each numbered
   stmt_resolved number caller (BlockStmt at body) variables each numbered = stmt_resolved number caller body variables each numbered
   stmt_resolved number caller (LetStmt at true target rhs) variables each numbered =
-      rhs_resolved variables number caller rhs (each_first Holds (rhs_rules setting number caller variables rhs) (demand rule.TypeChanged target.at (fits (variables target.text) (rhs_type setting variables rhs)) ∷ []) each) numbered
+      rhs_resolved variables number caller rhs (each_first Holds (rhs_rules setting number caller variables rhs) (demand rule.TypeChanged target.at (fits (variable_type variables target.text) (rhs_type setting variables rhs)) ∷ []) each) numbered
   stmt_resolved number caller (LetStmt at false target rhs) variables each numbered =
-      rhs_resolved variables number caller rhs (each_first Holds (rhs_rules setting number caller variables rhs) (demand rule.TypeChanged target.at (fits (variables target.text) (rhs_type setting variables rhs)) ∷ []) each.1) numbered
+      rhs_resolved variables number caller rhs (each_first Holds (rhs_rules setting number caller variables rhs) (demand rule.TypeChanged target.at (fits (variable_type variables target.text) (rhs_type setting variables rhs)) ∷ []) each.1) numbered
   stmt_resolved number caller (Then first rest) variables each numbered =
       let p = stmt_rules setting number caller variables first in
       let q = stmt_rules setting number caller (variables_after setting variables first) rest in
@@ -247,33 +249,47 @@ module _ (setting : Setting) where
     known_params (param ∷ params) all = (types_known.denoted param.ty all.0, known_params params all.1)
 
     -- the variables where a body begins
-    variables_known : (params : List ParamTree) → AreKnown setting (param_variables setting params)
-    variables_known [] name ty is = absurd (none-some ty is)
-    variables_known (param ∷ params) name ty is = by (bytes_eq name param.name.text) is (variables_known params name ty)
-      where
-        by : (k : Bool) → (if k then type_of setting param.ty else param_variables setting params name) ≡ Some ty → (param_variables setting params name ≡ Some ty → IsKnown setting ty) → IsKnown setting ty
-        by true is deeper = types_known.known param.ty ty is
-        by false is deeper = deeper is
+    variables_known : (params : List ParamTree) (variables : Variables) → AreKnown setting variables → AreKnown setting (fold (with_param setting) variables params)
+    variables_known [] variables known = known
+    variables_known (param ∷ params) variables known =
+        variables_known params (with_param setting variables param) (with_known setting variables known param.name.text (type_of setting param.ty) (types_known.known param.ty))
 
-    param_there : (params : List ParamTree) (name : Name) (ty : Ty) → param_variables setting params name ≡ Some ty → is_one_of name (map (λ param. param.name.text) params) ≡ true
-    param_there [] name ty is = absurd (none-some ty is)
-    param_there (param ∷ params) name ty is = by (bytes_eq name param.name.text) is (param_there params name ty)
+    -- each parameter has its type
+    params_typed : (params : List ParamTree) (variables : Variables) → map (λ variable. variable.0) variables ≡ map (λ param. param.name.text) params → map (λ variable. Some variable.1) variables ≡ map (λ param. type_of setting param.ty) params
+        → AreDifferent (map (λ param. param.name.text) params) → AllByRecursion (λ param. variable_type variables param.name.text ≡ type_of setting param.ty) params
+    params_typed [] variables names types different = tt
+    params_typed (param ∷ params) [] names types different = absurd (nil_is_not_cons names)
       where
-        by : (k : Bool) → (if k then type_of setting param.ty else param_variables setting params name) ≡ Some ty → (param_variables setting params name ≡ Some ty → is_one_of name (map (λ p. p.name.text) params) ≡ true) → (k || is_one_of name (map (λ p. p.name.text) params)) ≡ true
-        by true is deeper = refl
-        by false is deeper = deeper is
-
-    params_fit : (types : Variables) (params : List ParamTree) → ((name : Name) (ty : Ty) → param_variables setting params name ≡ Some ty → types name ≡ Some ty) → AreDifferent (map (λ param. param.name.text) params)
-        → AllByRecursion (λ param. (ty : Ty) × (type_of setting param.ty ≡ Some ty)) params → AllByRecursion (ParamFits setting types) params
-    params_fit types [] grows different all = tt
-    params_fit types (param ∷ params) grows different all = (
-      (all.0.0, all.0.1, grows param.name.text all.0.0 (ap (λ k. if k then type_of setting param.ty else param_variables setting params param.name.text) (name_test param.name.text) ∙ all.0.1)),
-      params_fit types params
-          (λ name ty is.
-          let differ = bytes_eq-sym name param.name.text ∙ names_differ (λ n. is_one_of n (map (λ p. p.name.text) params)) param.name.text name different.0 (param_there params name ty is) in
-          grows name ty (ap (λ k. if k then type_of setting param.ty else param_variables setting params name) differ ∙ is))
-          different.1 all.1,
+        nil_is_not_cons : {x : Name} {xs : List Name} → [] ≡ x ∷ xs → ⊥
+        nil_is_not_cons same = cc
+    params_typed (param ∷ params) (variable ∷ variables) names types different = (
+      rw (sym (first_is names), name_test variable.0) (first_is types),
+      later_typed params (subst (λ n. is_one_of n (map (λ param. param.name.text) params) ≡ false) (sym (first_is names)) different.0) (params_typed params variables (rest_is names) (rest_is types) different.1),
     )
+      where
+        first_is : {A : Type 0} {x y : A} {xs ys : List A} → x ∷ xs ≡ y ∷ ys → x ≡ y
+        first_is same = cc
+
+        rest_is : {A : Type 0} {x y : A} {xs ys : List A} → x ∷ xs ≡ y ∷ ys → xs ≡ ys
+        rest_is same = cc
+
+        later_typed : (rest : List ParamTree) → is_one_of variable.0 (map (λ param. param.name.text) rest) ≡ false → AllByRecursion (λ param. variable_type variables param.name.text ≡ type_of setting param.ty) rest
+            → AllByRecursion (λ param. variable_type (variable ∷ variables) param.name.text ≡ type_of setting param.ty) rest
+        later_typed [] differ all = tt
+        later_typed (other ∷ rest) differ all =
+            let parts = or_parts (bytes_eq variable.0 other.name.text) (is_one_of variable.0 (map (λ param. param.name.text) rest)) differ in
+            (ap (λ k. if k then Some variable.1 else variable_type variables other.name.text) (bytes_eq-sym other.name.text variable.0 ∙ parts.0) ∙ all.0, later_typed rest parts.1 all.1)
+
+    params_fit : (types : Types) (variables : Variables) → Grows variables types → (params : List ParamTree) → AllByRecursion (λ param. variable_type variables param.name.text ≡ type_of setting param.ty) params
+        → AllByRecursion (λ param. (ty : Ty) × (type_of setting param.ty ≡ Some ty)) params → AllByRecursion (ParamFits setting types) params
+    params_fit types variables grows [] typed all = tt
+    params_fit types variables grows (param ∷ params) typed all =
+        ((all.0.0, all.0.1, grows param.name.text all.0.0 (typed.0 ∙ all.0.1)), params_fit types variables grows params typed.1 all.1)
+
+    -- types that are known
+    are_known : (params : List ParamTree) → AllByRecursion (λ param. (ty : Ty) × (type_of setting param.ty ≡ Some ty)) params → AllByRecursion (λ param. Denoting.IsKnown setting param.ty) params
+    are_known [] all = tt
+    are_known (param ∷ params) all = (ap is_some all.0.1, are_known params all.1)
 
 module _ (widths : Widths) (program : ProgramTree) (types : Name → Option Ty) (typed : IsTyped widths program types) where
   abbrev pub checked_setting : Setting
@@ -338,15 +354,17 @@ module _ (widths : Widths) (program : ProgramTree) (types : Name → Option Ty) 
       let rules = rules_of k fun is in
       let targets = targets_of_fun k fun is in
       let head = head_known name fun named in
-      let ends = end_variables checked_setting fun in
+      let ends = fun_types checked_setting fun in
       let params = params_sound checked_setting [] fun.params rules.params targets.params in
-      let body = stmt_sound checked_setting types_are_known head_known ends k fun fun.body (param_variables checked_setting fun.params) (variables_known checked_setting types_are_known fun.params) (λ n ty found. found) rules.body targets.body in
+      let body = stmt_sound checked_setting types_are_known head_known ends k fun fun.body (param_variables checked_setting fun.params) (variables_known checked_setting types_are_known fun.params [] (λ n ty found. absurd (none-some ty found))) (λ n ty found. found) rules.body targets.body in
+      let first = params_first checked_setting fun.params rules.params (are_known checked_setting types_are_known fun.params head.params) in
       let returned = is_there (ends fun.returned.text) rules.return.0 in
       let same = fits_equal head.result.0 returned.0 (subst (λ o. fits o (Some returned.0) ≡ true) head.result.1 (subst (λ o. fits (type_of checked_setting fun.result) o ≡ true) returned.1 rules.return.1.1.0)) in
       record {
         fit = record {
           body = body.fit;
-          params = params_fit checked_setting types_are_known ends fun.params (grows_after checked_setting (param_variables checked_setting fun.params) fun.body) params.different head.params;
+          params = params_fit checked_setting types_are_known ends (param_variables checked_setting fun.params) (grows_after checked_setting (param_variables checked_setting fun.params) fun.body) fun.params
+              (params_typed checked_setting types_are_known fun.params (param_variables checked_setting fun.params) first.names first.types params.different) head.params;
           result = (head.result.0, head.result.1, returned.1 ∙ ap Some (sym same));
           different = (not-true (is_one_of fun.returned.text (map (λ param. param.name.text) fun.params)) rules.return.1.0, params.different);
         };

@@ -1,9 +1,9 @@
 -- The rules of types of a program give typed statements whose calls go down.
-use Rattle.std.proofs.Common.{◌≡◌, ◌∙◌, ◌==◌, refl, sym, ap, subst, arith, ltb, ltb-true, ℕ, pred, Bool, true, false, ◌||◌, ◌&&◌, if◌then◌else◌, List, [], ◌∷◌, ◌++◌, map, length, get_or, slice_get, Option, Some, None, is_some, option_and_then, bytes_eq}
+use Rattle.std.proofs.Common.{◌≡◌, ◌∙◌, ◌==◌, refl, sym, ap, subst, arith, ltb, ltb-true, ℕ, pred, Bool, true, false, ◌||◌, ◌&&◌, if◌then◌else◌, List, [], ◌∷◌, ◌++◌, map, length, get_or, slice_get, Option, Some, None, is_some, option_and_then, bytes_eq, ◌⊎◌, inl, inr, ⊎_elim}
 use Rattle.std.specs.List.{AllByRecursion}
 use Rattle.std.proofs.lemmas.Bool.{and_parts, not-true}
 use Rattle.std.proofs.lemmas.Bool.Decides.{Decides-eqb}
-use Rattle.std.proofs.lemmas.Option.{slice_get-get_or}
+use Rattle.std.proofs.lemmas.Option.{slice_get-get_or, none-some}
 use Rattle.std.proofs.lemmas.List.Quantifiers.{position-Some}
 use Rattle.tw_syntax.specs.Names.{NameTree}
 use Rattle.tw_syntax.specs.Programs.{ParamTree, FunTree}
@@ -15,35 +15,74 @@ use Rattle.std.proofs.Math.Bool.{beq}
 use Rattle.tw_types.specs.Types.{Ty, UnitTy, Word, Boolean, Pointer, PairTy}
 use Rattle.tw_resolve.specs.AliasTypes.{IsNumbered}
 use Rattle.tw_resolve.specs.Declarations.{Name, is_one_of, number_of, rhs_targets, stmt_targets}
-use Rattle.tw_resolve.specs.Expressions.{Variables, path_type, rhs_type, fun_named, is_own, is_smaller, may_call, matches_declared, if_there, params_of, callee_rules, bound_rules, arg_rules, args_rules, rhs_rules, path_rules}
+use Rattle.tw_resolve.specs.Expressions.{Types, Variables, variable_type, path_type, rhs_type, fun_named, is_own, is_smaller, may_call, matches_declared, if_there, params_of, callee_rules, bound_rules, arg_rules, args_rules, rhs_rules, path_rules}
 use Rattle.tw_resolve.specs.Setting.{Setting, type_of, pointee, fits}
 use Rattle.tw_resolve.specs.Statements.{with_variable, variables_after, stmt_rules, is_pointer}
 use Rattle.tw_text.specs.declared.refusal.Rule.TheVariants as rule
 use Rattle.tw_resolve.specs.Demands.{demand}
 use Rattle.tw_resolve.proofs.Demands.{Holds, EachHolds}
 use Rattle.tw_resolve.proofs.Each.{each_first, each_rest}
-use Rattle.tw_resolve.proofs.Declaring.{bytes_eq-sym}
+use Rattle.tw_resolve.proofs.Texts.{bytes_eq-sym}
 use Rattle.tw_check.proofs.NameSets.{is_one_of-append, names_differ}
-use Rattle.tw_state.proofs.Basics.{same_some, by_option, same_name, name_test, contradiction}
+use Rattle.tw_state.proofs.Basics.{same_some, by_option, name_test, contradiction}
 use Rattle.tw_state.proofs.Calls.{AreDifferent}
 use Rattle.tw_state.proofs.Known.{IsKnown}
 use Rattle.tw_state.proofs.TypedTrees.{ArgsFit, RhsFits, StmtFits}
 use Rattle.tw_state.proofs.CallEnds.{MayCall, CallsEarlier, CallsItself, IsLess, RhsDescends, StmtDescends}
 use Rattle.tw_state.proofs.SoundExpressions.{TypesKnown, Grows, is_there, fits_equal, pointer_known, path_sound, expr_sound}
 
--- variables keep their types
-with_variable_keeps : (variables : Variables) (name : Name) (o : Option Ty) → Grows variables (with_variable variables name o)
-with_variable_keeps variables name o other ty is = by (is_some (variables name)) refl (bytes_eq other name) refl
+-- a variable keeps its type in a longer list
+type_in_longer : (variables more : Variables) (name : Name) (ty : Ty) → variable_type variables name ≡ Some ty → variable_type (variables ++ more) name ≡ Some ty
+type_in_longer [] more name ty is = absurd (none-some ty is)
+type_in_longer (first ∷ variables) more name ty is = by (bytes_eq name first.0) is (type_in_longer variables more name ty)
   where
-    by : (k : Bool) → is_some (variables name) ≡ k → (l : Bool) → bytes_eq other name ≡ l → (if k then variables other else if l then o else variables other) ≡ Some ty
-    by true there l same = is
-    by false none true same = contradiction {test = true} refl (sym (ap is_some (ap variables (sym (same_name other name same)) ∙ is)) ∙ none)
-    by false none false other = is
+    by : (k : Bool) → (if k then Some first.1 else variable_type variables name) ≡ Some ty → (variable_type variables name ≡ Some ty → variable_type (variables ++ more) name ≡ Some ty)
+        → (if k then Some first.1 else variable_type (variables ++ more) name) ≡ Some ty
+    by true is deeper = is
+    by false is deeper = deeper is
 
-with_variable_new : (variables : Variables) (name : Name) (o : Option Ty) → is_some (variables name) ≡ false → with_variable variables name o name ≡ o
-with_variable_new variables name o none = rw (none, name_test name) refl
+-- a new variable has its type
+type_of_last : (variables : Variables) (name : Name) (ty : Ty) → is_some (variable_type variables name) ≡ false → variable_type (variables ++ (name, ty) ∷ []) name ≡ Some ty
+type_of_last [] name ty none = rw (name_test name) refl
+type_of_last (first ∷ variables) name ty none = by (bytes_eq name first.0) none (type_of_last variables name ty)
+  where
+    by : (k : Bool) → is_some (if k then Some first.1 else variable_type variables name) ≡ false → (is_some (variable_type variables name) ≡ false → variable_type (variables ++ (name, ty) ∷ []) name ≡ Some ty)
+        → (if k then Some first.1 else variable_type (variables ++ (name, ty) ∷ []) name) ≡ Some ty
+    by true none deeper = contradiction {test = true} refl none
+    by false none deeper = deeper none
 
-pub grows_after : (setting : Setting) (variables : Variables) (s : StmtTree) → Grows variables (variables_after setting variables s)
+-- the type of a variable is that of an earlier one, or of the last one
+type_in_either : (variables : Variables) (name other : Name) (new ty : Ty) → variable_type (variables ++ (name, new) ∷ []) other ≡ Some ty → (variable_type variables other ≡ Some ty) ⊎ (new ≡ ty)
+type_in_either [] name other new ty is = by (bytes_eq other name) is
+  where
+    by : (k : Bool) → (if k then Some new else None) ≡ Some ty → (None ≡ Some ty) ⊎ (new ≡ ty)
+    by true is = inr (same_some refl is)
+    by false is = inl is
+type_in_either (first ∷ variables) name other new ty is = by (bytes_eq other first.0) is (type_in_either variables name other new ty)
+  where
+    by : (k : Bool) → (if k then Some first.1 else variable_type (variables ++ (name, new) ∷ []) other) ≡ Some ty
+        → (variable_type (variables ++ (name, new) ∷ []) other ≡ Some ty → (variable_type variables other ≡ Some ty) ⊎ (new ≡ ty)) → ((if k then Some first.1 else variable_type variables other) ≡ Some ty) ⊎ (new ≡ ty)
+    by true is deeper = inl is
+    by false is deeper = deeper is
+
+-- variables keep their types
+pub with_variable_keeps : (variables : Variables) (name : Name) (o : Option Ty) → Grows variables (variable_type (with_variable variables name o))
+with_variable_keeps variables name None other ty is = is
+with_variable_keeps variables name (Some new) other ty is = by (is_some (variable_type variables name))
+  where
+    by : (k : Bool) → variable_type (if k then variables else variables ++ (name, new) ∷ []) other ≡ Some ty
+    by true = is
+    by false = type_in_longer variables ((name, new) ∷ []) other ty is
+
+with_variable_new : (variables : Variables) (name : Name) (o : Option Ty) → is_some (variable_type variables name) ≡ false → variable_type (with_variable variables name o) name ≡ o
+with_variable_new variables name None none = no_value (variable_type variables name) none
+  where
+    no_value : (o : Option Ty) → is_some o ≡ false → o ≡ None
+    no_value None none = refl
+    no_value (Some ty) none = contradiction {test = true} refl none
+with_variable_new variables name (Some ty) none = rw none (type_of_last variables name ty none)
+
+pub grows_after : (setting : Setting) (variables : Variables) (s : StmtTree) → Grows variables (variable_type (variables_after setting variables s))
 grows_after setting variables Nothing name ty is = is
 grows_after setting variables (Then first rest) name ty is = grows_after setting (variables_after setting variables first) rest name ty (grows_after setting variables first name ty is)
 grows_after setting variables (Else at stmts) name ty is = grows_after setting variables stmts name ty is
@@ -56,12 +95,25 @@ grows_after setting variables (WithStmt at setup work) name ty is = grows_after 
 grows_after setting variables (BlockStmt at body) name ty is = grows_after setting variables body name ty is
 grows_after setting variables (SkipStmt at) name ty is = is
 
-grows_by : {x y z : Variables} → Grows x y → Grows y z → Grows x z
-grows_by first second name ty is = second name ty (first name ty is)
+-- variables that grow into others after a statement grow into them
+grows_past : (setting : Setting) (variables : Variables) (s : StmtTree) {types : Types} → Grows (variables_after setting variables s) types → Grows variables types
+grows_past setting variables s grows name ty is = grows name ty (grows_after setting variables s name ty is)
+
+grows_with : (variables : Variables) (name : Name) (o : Option Ty) {types : Types} → Grows (with_variable variables name o) types → Grows variables types
+grows_with variables name o grows other ty is = grows other ty (with_variable_keeps variables name o other ty is)
 
 -- the types of variables are known
 abbrev pub AreKnown : Setting → Variables → Type 0
-AreKnown setting variables = (name : Name) (ty : Ty) → variables name ≡ Some ty → IsKnown setting ty
+AreKnown setting variables = (name : Name) (ty : Ty) → variable_type variables name ≡ Some ty → IsKnown setting ty
+
+-- variables with one more whose type is known, if it has one
+pub with_known : (setting : Setting) (variables : Variables) → AreKnown setting variables → (name : Name) (o : Option Ty) → ((ty : Ty) → o ≡ Some ty → IsKnown setting ty) → AreKnown setting (with_variable variables name o)
+with_known setting variables known name None is = known
+with_known setting variables known name (Some new) is = by (is_some (variable_type variables name))
+  where
+    by : (k : Bool) → AreKnown setting (if k then variables else variables ++ (name, new) ∷ [])
+    by true other ty found = known other ty found
+    by false other ty found = ⊎_elim (known other ty) (λ same. subst (IsKnown setting) same (is new refl)) (type_in_either variables name other new ty found)
 
 -- the types in the head of a function are known
 pub record HeadKnown (setting : Setting) (fun : FunTree) : Type 0 where
@@ -82,7 +134,7 @@ later earlier name rest new deeper = (
     last n true is = refl
     last n false is = ap (λ l. l || false) is
 
-module _ (setting : Setting) (types_known : TypesKnown setting) (funs_known : (name : Name) (fun : FunTree) → fun_named setting name ≡ Some fun → HeadKnown setting fun) (types : Variables) where
+module _ (setting : Setting) (types_known : TypesKnown setting) (funs_known : (name : Name) (fun : FunTree) → fun_named setting name ≡ Some fun → HeadKnown setting fun) (types : Types) where
   -- arguments that keep the rules
   pub record ArgsSound (earlier : List Name) (params : List ParamTree) (args : List NameTree) : Type 0 where
     pub fit : ArgsFit setting types params args
@@ -97,7 +149,7 @@ module _ (setting : Setting) (types_known : TypesKnown setting) (funs_known : (n
       let rest = args_rules setting variables (earlier ++ arg.text ∷ []) params args in
       let rules = each_first Holds first rest each in
       let deeper = args_sound variables grows (earlier ++ arg.text ∷ []) params args (ap pred len) known.1 (each_rest Holds first rest each) in
-      let ty = is_there (variables arg.text) rules.0 in
+      let ty = is_there (variable_type variables arg.text) rules.0 in
       let same = fits_equal known.0.0 ty.0 (subst (λ o. fits o (Some ty.0) ≡ true) known.0.1 (subst (λ o. fits (type_of setting param.ty) o ≡ true) ty.1 rules.1.1.0)) in
       let apart = later earlier arg.text (map (λ a. a.text) args) (not-true (is_one_of arg.text earlier) rules.1.0) deeper.new in
       record {
@@ -184,12 +236,7 @@ module _ (setting : Setting) (types_known : TypesKnown setting) (funs_known : (n
     pointer_of (PairTy first second) is = contradiction {test = true} refl (sym is)
 
     new_known : (variables : Variables) → AreKnown setting variables → (name : Name) (o : Option Ty) (ty : Ty) → o ≡ Some ty → IsKnown setting ty → AreKnown setting (with_variable variables name o)
-    new_known variables known name o ty is is_known other t found = by (is_some (variables name)) (bytes_eq other name) found
-      where
-        by : (k l : Bool) → (if k then variables other else if l then o else variables other) ≡ Some t → IsKnown setting t
-        by true l found = known other t found
-        by false true found = subst (IsKnown setting) (same_some is found) is_known
-        by false false found = known other t found
+    new_known variables known name o ty is is_known = with_known setting variables known name o (λ t same. subst (IsKnown setting) (same_some is same) is_known)
 
     pub stmt_sound : (s : StmtTree) (variables : Variables) → AreKnown setting variables → Grows (variables_after setting variables s) types → EachHolds (stmt_rules setting number caller variables s) → AllByRecursion (IsNumbered setting.scope.targets) (stmt_targets s) → StmtSound variables s
     stmt_sound Nothing variables known grows each numbered = record { fit = tt; descends = tt; known = known }
@@ -202,14 +249,14 @@ module _ (setting : Setting) (types_known : TypesKnown setting) (funs_known : (n
         let middle = variables_after setting variables first in
         let p = stmt_rules setting number caller variables first in
         let q = stmt_rules setting number caller middle rest in
-        let a = stmt_sound first variables known (grows_by (grows_after setting middle rest) grows) (each_first Holds p q each) (each_first (IsNumbered setting.scope.targets) (stmt_targets first) (stmt_targets rest) numbered) in
+        let a = stmt_sound first variables known (grows_past setting middle rest grows) (each_first Holds p q each) (each_first (IsNumbered setting.scope.targets) (stmt_targets first) (stmt_targets rest) numbered) in
         let b = stmt_sound rest middle a.known grows (each_rest Holds p q each) (each_rest (IsNumbered setting.scope.targets) (stmt_targets first) (stmt_targets rest) numbered) in
         record { fit = (a.fit, b.fit); descends = (a.descends, b.descends); known = b.known }
     stmt_sound (WithStmt at setup work) variables known grows each numbered =
         let middle = variables_after setting variables setup in
         let p = stmt_rules setting number caller variables setup in
         let q = stmt_rules setting number caller middle work in
-        let a = stmt_sound setup variables known (grows_by (grows_after setting middle work) grows) (each_first Holds p q each) (each_first (IsNumbered setting.scope.targets) (stmt_targets setup) (stmt_targets work) numbered) in
+        let a = stmt_sound setup variables known (grows_past setting middle work grows) (each_first Holds p q each) (each_first (IsNumbered setting.scope.targets) (stmt_targets setup) (stmt_targets work) numbered) in
         let b = stmt_sound work middle a.known grows (each_rest Holds p q each) (each_rest (IsNumbered setting.scope.targets) (stmt_targets setup) (stmt_targets work) numbered) in
         record { fit = (a.fit, b.fit); descends = (a.descends, b.descends); known = b.known }
     stmt_sound (IfStmt at cond first other) variables known grows each numbered =
@@ -218,9 +265,9 @@ module _ (setting : Setting) (types_known : TypesKnown setting) (funs_known : (n
         let p = stmt_rules setting number caller variables first in
         let q = stmt_rules setting number caller middle other in
         let rules = each_rest Holds c (p ++ q) each in
-        let start = grows_by (grows_after setting variables first) (grows_by (grows_after setting middle other) grows) in
+        let start = grows_past setting variables first (grows_past setting middle other grows) in
         let path = path_sound setting types_known variables types start known (Some Boolean) cond (each_first Holds c (p ++ q) each) in
-        let a = stmt_sound first variables known (grows_by (grows_after setting middle other) grows) (each_first Holds p q rules) (each_first (IsNumbered setting.scope.targets) (stmt_targets first) (stmt_targets other) numbered) in
+        let a = stmt_sound first variables known (grows_past setting middle other grows) (each_first Holds p q rules) (each_first (IsNumbered setting.scope.targets) (stmt_targets first) (stmt_targets other) numbered) in
         let b = stmt_sound other middle a.known grows (each_rest Holds p q rules) (each_rest (IsNumbered setting.scope.targets) (stmt_targets first) (stmt_targets other) numbered) in
         record { fit = (path.at_end ∙ ap Some (sym (fits_equal Boolean path.ty path.fitting)), a.fit, b.fit); descends = (a.descends, b.descends); known = b.known }
     stmt_sound (SwapStmt at left right) variables known grows each numbered =
@@ -243,8 +290,8 @@ module _ (setting : Setting) (types_known : TypesKnown setting) (funs_known : (n
         record { fit = (target.0, content.0, a.at_end ∙ ap Some target.1, content.1, b.at_end ∙ ap Some (sym same)); descends = tt; known = known }
     stmt_sound (LetStmt at true target rhs) variables known grows each numbered =
         let p = rhs_rules setting number caller variables rhs in
-        let q = demand rule.TypeChanged target.at (fits (variables target.text) (rhs_type setting variables rhs)) ∷ [] in
-        let r = rhs_sound variables (grows_by (with_variable_keeps variables target.text (rhs_type setting variables rhs)) grows) known rhs (each_first Holds p q each) numbered in
+        let q = demand rule.TypeChanged target.at (fits (variable_type variables target.text) (rhs_type setting variables rhs)) ∷ [] in
+        let r = rhs_sound variables (grows_with variables target.text (rhs_type setting variables rhs) grows) known rhs (each_first Holds p q each) numbered in
         let fitting = (each_rest Holds p q each).0 in
         record {
           fit = (r.ty, target_type r.ty r.is fitting, r.fit);
@@ -252,9 +299,9 @@ module _ (setting : Setting) (types_known : TypesKnown setting) (funs_known : (n
           known = new_known variables known target.text (rhs_type setting variables rhs) r.ty r.is r.known;
         }
       where
-        target_type : (ty : Ty) → rhs_type setting variables rhs ≡ Some ty → fits (variables target.text) (rhs_type setting variables rhs) ≡ true → types target.text ≡ Some ty
+        target_type : (ty : Ty) → rhs_type setting variables rhs ≡ Some ty → fits (variable_type variables target.text) (rhs_type setting variables rhs) ≡ true → types target.text ≡ Some ty
         target_type ty is fitting =
-            by_option (variables target.text)
+            by_option (variable_type variables target.text)
             (λ none. grows target.text ty (with_variable_new variables target.text (rhs_type setting variables rhs) (ap is_some none) ∙ is))
             (λ t found.
             grows target.text ty
@@ -262,9 +309,9 @@ module _ (setting : Setting) (types_known : TypesKnown setting) (funs_known : (n
             (found ∙ ap Some (fits_equal t ty (subst (λ o. fits (Some t) o ≡ true) is (subst (λ o. fits o (rhs_type setting variables rhs) ≡ true) found fitting))))))
     stmt_sound (LetStmt at false target rhs) variables known grows each numbered =
         let p = rhs_rules setting number caller variables rhs in
-        let q = demand rule.TypeChanged target.at (fits (variables target.text) (rhs_type setting variables rhs)) ∷ [] in
+        let q = demand rule.TypeChanged target.at (fits (variable_type variables target.text) (rhs_type setting variables rhs)) ∷ [] in
         let r = rhs_sound variables grows known rhs (each_first Holds p q each.1) numbered in
-        let t = is_there (variables target.text) each.0 in
+        let t = is_there (variable_type variables target.text) each.0 in
         let fitting = (each_rest Holds p q each.1).0 in
         let same = fits_equal t.0 r.ty (subst (λ o. fits (Some t.0) o ≡ true) r.is (subst (λ o. fits o (rhs_type setting variables rhs) ≡ true) t.1 fitting)) in
         record { fit = (r.ty, grows target.text t.0 t.1 ∙ ap Some same, r.fit); descends = r.descends; known = known }
