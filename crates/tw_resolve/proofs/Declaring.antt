@@ -2,6 +2,8 @@
 use denote.Bor.{Bor}
 use Rattle.std.proofs.Common.{◌≡◌, ◌∙◌, ap, sym, refl, ℕ, Bool, true, false, if◌then◌else◌, List, [], ◌∷◌, ◌++◌, Option, Some, None, option_map, is_some, map, position, bytes_eq}
 use Rattle.std.specs.Map.{keys_of}
+use Rattle.std.proofs.lemmas.Bool.Decides.{same_from_decides}
+use Rattle.std.proofs.lemmas.Slice.Eq.{bytes_eq-Decides}
 use Rattle.tw_types.specs.declared.types.Ty as ty
 use Rattle.tw_types.specs.Types.{Ty}
 use Rattle.tw_types.specs.FromCode.{ty_of}
@@ -11,6 +13,11 @@ use Rattle.tw_resolve.specs.Expressions.{Variables, texts_of, variable_type}
 use Rattle.tw_resolve.specs.Statements.{with_variable}
 use Rattle.tw_resolve.specs.Variables.{variables_in}
 use Rattle.tw_resolve.proofs.Entries.{position-map}
+
+pub bytes_eq-sym : (x y : List ℕ) → bytes_eq x y ≡ bytes_eq y x
+bytes_eq-sym x y =
+    same_from_decides (bytes_eq x y) (bytes_eq y x) (bytes_eq-Decides x y)
+    ((λ is. sym ((bytes_eq-Decides y x).0 is)), (λ same. (bytes_eq-Decides y x).1 (sym same)))
 
 type_in_first : (k : Bool) (first : ty.Ty) (rest : Option ty.Ty) (types : Option Ty) → option_map ty_of rest ≡ types
     → option_map ty_of (if k then Some first else rest) ≡ (if k then Some (ty_of first) else types)

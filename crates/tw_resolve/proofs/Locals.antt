@@ -4,7 +4,6 @@ use Rattle.std.proofs.Common.{◌≡◌, ◌∙◌, ◌<◌, ◌≤◌, ◌+◌,
 use Rattle.std.specs.List.{AllByRecursion, IsDistinct}
 use Rattle.std.specs.Map.{keys_of}
 use Rattle.std.proofs.lemmas.Bool.{cases_lt, or_left, or_right}
-use Rattle.std.proofs.lemmas.Bool.Decides.{same_from_decides}
 use Rattle.std.proofs.lemmas.List.{length-append, length-map, map-append}
 use Rattle.std.proofs.lemmas.List.Elements.{filter-append}
 use Rattle.std.proofs.lemmas.List.Quantifiers.{position-Some}
@@ -15,12 +14,8 @@ use Rattle.tw_types.specs.Types.{Ty}
 use Rattle.tw_resolve.specs.Declarations.{Name, is_one_of, AreDifferent}
 use Rattle.tw_resolve.specs.Expressions.{Variables, texts_of}
 use Rattle.tw_resolve.specs.Variables.{variables_in}
+use Rattle.tw_resolve.proofs.Declaring.{bytes_eq-sym}
 use Rattle.tw_resolve.proofs.Each.{each_always, each_at, each_rest, each_weaker}
-
-bytes_eq-sym : (x y : List ℕ) → bytes_eq x y ≡ bytes_eq y x
-bytes_eq-sym x y =
-    same_from_decides (bytes_eq x y) (bytes_eq y x) (bytes_eq-Decides x y)
-    ((λ is. sym ((bytes_eq-Decides y x).0 is)), (λ same. (bytes_eq-Decides y x).1 (sym same)))
 
 bytes_eq-own : (x : List ℕ) → bytes_eq x x ≡ true
 bytes_eq-own x = (bytes_eq-Decides x x).1 refl

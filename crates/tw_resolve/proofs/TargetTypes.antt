@@ -3,10 +3,8 @@ use denote.Bor.{Bor}
 use Rattle.std.proofs.Common.{◌≡◌, ◌∙◌, ◌<◌, ◌≤◌, ◌+◌, arith, ap, sym, refl, subst, ℕ, zero, suc, Bool, false, List, [], ◌∷◌, ◌++◌, map, take, length, position, Some, None, slice_get, bytes_eq}
 use Rattle.std.specs.List.{AllByRecursion, IsDistinct, position_or_len}
 use Rattle.std.specs.Map.{keys_of}
-use Rattle.std.proofs.lemmas.Bool.Decides.{same_from_decides}
 use Rattle.std.proofs.lemmas.Grind.{common_steps}
 use Rattle.std.proofs.lemmas.List.{length-map}
-use Rattle.std.proofs.lemmas.Slice.Eq.{bytes_eq-Decides}
 use Rattle.tw_syntax.specs.declared.written.Written.{Written}
 use Rattle.tw_syntax.specs.Types.{WrittenTree, type_print, written_tree}
 use Rattle.tw_types.specs.Types.{Ty, UnitTy, Target}
@@ -15,6 +13,7 @@ use Rattle.tw_types.proofs.Tables.{interned-new, place_of-new}
 use Rattle.tw_resolve.specs.Entries.{IsTarget, table_targets}
 use Rattle.tw_resolve.specs.Setting.{Setting, type_of}
 use Rattle.tw_resolve.proofs.AtPlaces.{found_next}
+use Rattle.tw_resolve.proofs.Declaring.{bytes_eq-sym}
 use Rattle.tw_resolve.proofs.Each.{each_at}
 use Rattle.tw_resolve.proofs.Entries.{position-map}
 
@@ -35,11 +34,6 @@ added old middle new text ty id none is place made =
   where
     one : {x y : ℕ} → Some x ≡ Some y → x ≡ y
     one same = cc same
-
-bytes_eq-sym : (x y : List ℕ) → bytes_eq x y ≡ bytes_eq y x
-bytes_eq-sym x y =
-    same_from_decides (bytes_eq x y) (bytes_eq y x) (bytes_eq-Decides x y)
-    ((λ is. sym ((bytes_eq-Decides y x).0 is)), (λ same. (bytes_eq-Decides y x).1 (sym same)))
 
 -- two targets have one text
 abbrev alike : WrittenTree → WrittenTree → Bool
