@@ -32,3 +32,4 @@ pub mod Known
 pub mod SoundExpressions
 pub mod SoundStatements
 pub mod SoundPrograms
+pub mod WorkedEntry
