@@ -33,3 +33,4 @@ pub mod SoundExpressions
 pub mod SoundStatements
 pub mod SoundPrograms
 pub mod WorkedEntry
+pub mod WorkedLists
