@@ -34,3 +34,4 @@ pub mod SoundStatements
 pub mod SoundPrograms
 pub mod WorkedEntry
 pub mod WorkedLists
+pub mod Listed
