@@ -32,3 +32,6 @@ pub mod Known
 pub mod SoundExpressions
 pub mod SoundStatements
 pub mod SoundPrograms
+pub mod WorkedEntry
+pub mod WorkedLists
+pub mod Listed

@@ -23,7 +23,7 @@ use Rattle.tw_state.proofs.LiveRuns.{live_added}
 use Rattle.tw_state.proofs.Undone.{undone}
 
 -- names are added in any order
-with_value-swap : (store : Store) (a b : Name) (x y : Value) → bytes_eq a b ≡ false → with_value (with_value store a x) b y ≡ with_value (with_value store b y) a x
+pub with_value-swap : (store : Store) (a b : Name) (x y : Value) → bytes_eq a b ≡ false → with_value (with_value store a x) b y ≡ with_value (with_value store b y) a x
 with_value-swap store a b x y differ = fun_ext (λ n. by n (bytes_eq a n) (bytes_eq b n) refl refl)
   where
     by : (n : Name) (k l : Bool) → bytes_eq a n ≡ k → bytes_eq b n ≡ l → (if l then Some y else if k then Some x else store n) ≡ (if k then Some x else if l then Some y else store n)
@@ -33,7 +33,7 @@ with_value-swap store a b x y differ = fun_ext (λ n. by n (bytes_eq a n) (bytes
     by n false false p q = refl
 
 -- the value at a path of the name that was added
-with_value_at-added : (store : Store) (path : PathTree) (x new : Value) → with_value_at (with_value store path.root.text x) path new ≡ with_value store path.root.text (with_part path.steps x new)
+pub with_value_at-added : (store : Store) (path : PathTree) (x new : Value) → with_value_at (with_value store path.root.text x) path new ≡ with_value store path.root.text (with_part path.steps x new)
 with_value_at-added store path x new = fun_ext (λ n. by n (bytes_eq path.root.text n))
   where
     by : (n : Name) (k : Bool) → (if k then option_map (λ whole. with_part path.steps whole new) (if k then Some x else store n) else if k then Some x else store n) ≡ (if k then Some (with_part path.steps x new) else store n)

@@ -13,3 +13,4 @@ pub mod Semantics
 pub mod Stuck
 pub mod Results
 pub mod Derivations
+pub mod Listed
