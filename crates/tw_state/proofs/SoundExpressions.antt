@@ -2,14 +2,13 @@
 use Rattle.std.proofs.Common.{◌≡◌, ◌∙◌, ◌≤◌, ◌<◌, ◌^◌, ◌-◌, leb-true, refl, sym, ap, ap₂, subst, arith, ℕ, zero, suc, true, if◌then◌else◌, List, [], ◌∷◌, ◌++◌, Option, Some, None, is_some, option_map}
 use Rattle.std.specs.List.{AllByRecursion}
 use Rattle.std.proofs.lemmas.Bool.{and_parts, and_from}
-use Rattle.std.proofs.lemmas.Bool.Decides.{Decides-eqb}
 use Rattle.std.proofs.lemmas.Nat.{pow_pos}
 use Rattle.tw_syntax.specs.declared.term.OpKind.{OpKind}
 use Rattle.tw_syntax.specs.declared.term.OpKind.TheVariants as op
 use Rattle.tw_syntax.specs.Names.{PathTree}
 use Rattle.tw_syntax.specs.Terms.{AtomTree, PlaceAtom, NumberAtom, TrueAtom, FalseAtom, UnitAtom, NullAtom, ZeroAtom, ExprTree, OneExpr, TwoExpr, NotExpr, OpExpr}
 use Rattle.tw_syntax.specs.Types.{WrittenTree, UnitType, UintType, BoolType, PairType, PtrType, NamedType, written_place}
-use Rattle.tw_types.specs.Types.{Ty, UnitTy, Word, Boolean, Pointer, PairTy, same_ty}
+use Rattle.tw_types.specs.Types.{Ty, UnitTy, Word, Boolean, Pointer, PairTy}
 use Rattle.tw_resolve.specs.AliasTypes.{IsNumbered, IsResolved}
 use Rattle.tw_resolve.specs.Declarations.{Name, target_number, targets_in, atom_targets, expr_targets}
 use Rattle.tw_resolve.specs.Denotes.{names_declared}
@@ -17,42 +16,15 @@ use Rattle.tw_resolve.specs.Expressions.{Types, Variables, variable_type, part, 
 use Rattle.tw_resolve.specs.Setting.{Setting, type_of, pointer_to, pair_of, size_rules, part_rules, written_rules, fits}
 use Rattle.tw_resolve.proofs.Demands.{Holds, EachHolds}
 use Rattle.tw_resolve.proofs.Each.{each_first, each_rest}
+use Rattle.tw_resolve.proofs.Params.{same_types}
 use Rattle.tw_state.proofs.Basics.{some_value, by_option, contradiction}
 use Rattle.tw_state.proofs.Known.{IsKnown}
 use Rattle.tw_state.proofs.TypedTrees.{AtomFits, OpFits, ExprFits}
 use Rattle.tw_state.proofs.TypedValues.{part-none}
 
--- types that pass the test are equal
-pub same_ty-equal : (x y : Ty) → same_ty x y ≡ true → x ≡ y
-same_ty-equal UnitTy UnitTy test = refl
-same_ty-equal UnitTy Word test = contradiction {test = true} refl (sym test)
-same_ty-equal UnitTy Boolean test = contradiction {test = true} refl (sym test)
-same_ty-equal UnitTy (Pointer n) test = contradiction {test = true} refl (sym test)
-same_ty-equal UnitTy (PairTy c d) test = contradiction {test = true} refl (sym test)
-same_ty-equal Word UnitTy test = contradiction {test = true} refl (sym test)
-same_ty-equal Word Word test = refl
-same_ty-equal Word Boolean test = contradiction {test = true} refl (sym test)
-same_ty-equal Word (Pointer n) test = contradiction {test = true} refl (sym test)
-same_ty-equal Word (PairTy c d) test = contradiction {test = true} refl (sym test)
-same_ty-equal Boolean UnitTy test = contradiction {test = true} refl (sym test)
-same_ty-equal Boolean Word test = contradiction {test = true} refl (sym test)
-same_ty-equal Boolean Boolean test = refl
-same_ty-equal Boolean (Pointer n) test = contradiction {test = true} refl (sym test)
-same_ty-equal Boolean (PairTy c d) test = contradiction {test = true} refl (sym test)
-same_ty-equal (Pointer m) UnitTy test = contradiction {test = true} refl (sym test)
-same_ty-equal (Pointer m) Word test = contradiction {test = true} refl (sym test)
-same_ty-equal (Pointer m) Boolean test = contradiction {test = true} refl (sym test)
-same_ty-equal (Pointer m) (Pointer n) test = ap Pointer ((Decides-eqb m n).0 test)
-same_ty-equal (Pointer m) (PairTy c d) test = contradiction {test = true} refl (sym test)
-same_ty-equal (PairTy a b) UnitTy test = contradiction {test = true} refl (sym test)
-same_ty-equal (PairTy a b) Word test = contradiction {test = true} refl (sym test)
-same_ty-equal (PairTy a b) Boolean test = contradiction {test = true} refl (sym test)
-same_ty-equal (PairTy a b) (Pointer n) test = contradiction {test = true} refl (sym test)
-same_ty-equal (PairTy a b) (PairTy c d) test = let parts = and_parts (same_ty a c) (same_ty b d) test in ap₂ PairTy (same_ty-equal a c parts.0) (same_ty-equal b d parts.1)
-
 -- a type that fits a needed one is this one
 pub fits_equal : (needed ty : Ty) → fits (Some needed) (Some ty) ≡ true → needed ≡ ty
-fits_equal needed ty test = same_ty-equal needed ty test
+fits_equal needed ty test = same_types needed ty test
 
 pub is_there : {A : Type 0} (o : Option A) → is_some o ≡ true → (x : A) × (o ≡ Some x)
 is_there (Some x) is = (x, refl)
