@@ -1,5 +1,5 @@
 -- The result of an entry: it is determined, it determines the state, and a state without one is stuck, forward and backward.
-use Rattle.std.proofs.Common.{◌≡◌, ◌∙◌, refl, sym, ap, subst, ℕ, Bool, true, false, ◌⊎◌, inl, inr, ⊎_elim, Option, Some, None, option_map}
+use Rattle.std.proofs.Common.{◌≡◌, ◌∙◌, refl, sym, ap, subst, ℕ, Bool, true, false, ◌⊎◌, inl, inr, ⊎_elim, Option, Some, None, option_and_then, slice_get, option_map}
 use Rattle.tw_text.specs.declared.place.Pos.{Pos}
 use Rattle.tw_text.specs.Places.{first_place}
 use Rattle.tw_syntax.specs.Programs.{FunTree}
@@ -46,6 +46,11 @@ pub record IsFunction (setting : Setting) (fun : FunTree) : Type 0 where
   pub number : ℕ
   pub numbered : number_of setting.funs name ≡ Some number
   pub named : fun_named setting name ≡ Some fun
+
+-- a function by its number, as the entry of a request has it
+pub function_of_number : (setting : Setting) (name : Name) (number : ℕ) (fun : FunTree) → number_of setting.funs name ≡ Some number → slice_get setting.funs number ≡ Some fun → IsFunction setting fun
+function_of_number setting name number fun numbered there =
+    record { name = name; number = number; numbered = numbered; named = ap (option_and_then (slice_get setting.funs)) numbered ∙ there }
 
 -- one of two holds, and not both
 abbrev pub ExactlyOne : Type 0 → Type 0 → Type 0
