@@ -1,6 +1,6 @@
 //! Tests of `check`, by whole sources.
 use crate::status::Status;
-use crate::tests::answers;
+use crate::tests::{answers, repeated};
 use std::alloc::AllocError;
 
 #[test]
@@ -227,6 +227,86 @@ fn refuses_other_words_of_check(rt: HostRuntime) -> Result<(), AllocError> {
             answers(&rt, line, b"", Status::Usage, "refused usage\n")?,
             "{line}"
         );
+    }
+    Ok(())
+}
+
+const WIDE: &str = "check --word 32 --addr 8";
+
+/// Aliases, one in a line: the first is a pair, and each other one is a pair of the one before it and a word.
+fn nested_aliases(rt: &HostRuntime, count: usize) -> Result<String, AllocError> {
+    let mut text = String::from_str(rt.alloc(), "type a1 = (uint, uint);\n")?;
+    for before in 1..count {
+        let number = before + 1;
+        let line = format!(in rt.alloc(); "type a{number} = (a{before}, uint);\n")?;
+        text.push_str(line.as_str())?;
+    }
+    Ok(text)
+}
+
+#[test]
+fn refuses_types_past_their_limits(rt: HostRuntime) -> Result<(), AllocError> {
+    let deep = nested_aliases(&rt, 63)?;
+    assert!(rt; answers(&rt, WIDE, deep.as_bytes(), Status::Ok, "ok\n")?);
+    let deeper = nested_aliases(&rt, 64)?;
+    let line = "refused type-too-deep at 64:6\n";
+    assert!(rt; answers(&rt, WIDE, deeper.as_bytes(), Status::Resolve, line)?);
+    // The last alias has 4,096 bits.
+    let large =
+        "type a = (uint, uint);\ntype b = (a, a);\ntype c = (b, b);\ntype d = (c, c);\ntype e = (d, d);\n\
+        type f = (e, e);\ntype g = (f, f);\n";
+    let table = [
+        ("", Status::Ok, "ok\n"),
+        (
+            "type h = (g, bool);",
+            Status::Resolve,
+            "refused type-too-large at 8:6\n",
+        ),
+        (
+            "type h = (g, ());",
+            Status::Resolve,
+            "refused type-too-large at 8:6\n",
+        ),
+        (
+            "fun f(x: g) -> bool { let y <- (x, true); let r <- true; return r; }",
+            Status::Resolve,
+            "refused type-too-large at 8:32\n",
+        ),
+    ];
+    for (more, status, line) in table {
+        let text = format!(in rt.alloc(); "{large}{more}")?;
+        assert!(rt;
+            answers(&rt, WIDE, text.as_bytes(), status, line)?,
+            "{more}"
+        );
+    }
+    Ok(())
+}
+
+/// A function, and this number of others, each of which calls the one before it.
+fn calling_functions(rt: &HostRuntime, others: usize) -> Result<String, AllocError> {
+    let mut text = String::from_str(
+        rt.alloc(),
+        "fun f0(a: bool) -> bool { let r <- a; return r; }\n",
+    )?;
+    for before in 0..others {
+        let number = before + 1;
+        let line = format!(in rt.alloc();
+            "fun f{number}(a: bool) -> bool {{ let r <- f{before}(a); return r; }}\n"
+        )?;
+        text.push_str(line.as_str())?;
+    }
+    Ok(text)
+}
+
+#[test]
+fn checks_long_programs(rt: HostRuntime) -> Result<(), AllocError> {
+    let part = "  let t <- a;\n  let t -> a;\n";
+    let end = "  let r <- a;\n  return r;\n}\n";
+    let statements = repeated(&rt, "fun f(a: bool) -> bool {\n", part, 30_000, end)?;
+    let functions = calling_functions(&rt, 2_999)?;
+    for text in [&statements, &functions] {
+        assert!(rt; answers(&rt, WIDE, text.as_bytes(), Status::Ok, "ok\n")?);
     }
     Ok(())
 }
