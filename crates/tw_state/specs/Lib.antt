@@ -14,3 +14,4 @@ pub mod Stuck
 pub mod Results
 pub mod Derivations
 pub mod Listed
+pub mod FromCode
