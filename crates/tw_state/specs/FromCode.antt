@@ -6,10 +6,11 @@ use Rattle.tw_types.specs.FromCode.{value_of}
 use Rattle.tw_types.specs.Values.{Value, Truth}
 use Rattle.tw_check.specs.Liveness.{live_at_start, live_at_end}
 use Rattle.tw_check.specs.Names.{Names}
-use Rattle.tw_state.specs.declared.state.Cell as cell
+use Rattle.tw_state.specs.declared.state.Cell.{Cell as CellOfCode}
+use Rattle.tw_state.specs.declared.state.Cell.TheVariants as cell
 use Rattle.tw_state.specs.declared.state.Side.{Side}
 use Rattle.tw_state.specs.declared.state.Side.TheVariants as side
-use Rattle.tw_state.specs.declared.state.State as state
+use Rattle.tw_state.specs.declared.state.State.{State as StateOfCode}
 use Rattle.tw_state.specs.States.{Name, Cell, Free, Live, State}
 use Rattle.tw_state.specs.Listed.{names_at_start, names_at_end, store_of}
 
@@ -38,12 +39,12 @@ abbrev pub state_at : Side → FunTree → ListedState → State
 state_at side fun listed = state_of (names_at side fun) listed
 
 -- the cell that a cell of the code is
-abbrev pub cell_of : cell.Cell → Cell
+abbrev pub cell_of : CellOfCode → Cell
 cell_of (cell.Free next) = Free next
 cell_of (cell.Live target value) = Live target.0 (value_of value)
 
 -- the listed state that a state of the code is
-abbrev pub listed_of : state.State → ListedState
+abbrev pub listed_of : StateOfCode → ListedState
 listed_of state = record { head = state.free; cells = map cell_of state.cells.items; values = map value_of state.store.items }
 
 pub cell_of-free : cell_of (cell.Free 3) ≡ Free 3
