@@ -15,3 +15,5 @@ pub mod Results
 pub mod Derivations
 pub mod Listed
 pub mod FromCode
+pub mod FreeCells
+pub mod TypedLists

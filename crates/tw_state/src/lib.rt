@@ -2,6 +2,11 @@
 //! The definitions of `specs/` give the states, the semantics of statements, the renaming of blocks, and the encoding in bits.
 #![tactic(auto)]
 
+mod free_cells;
+mod names;
 mod state;
+mod typing;
 
+pub use free_cells::well_formed;
 pub use state::{Cell, Side, State};
+pub use typing::typed;
