@@ -51,13 +51,13 @@ ends_at_once cells address count some none (block ∷ chain, links, counted) =
 abbrev pub passes : ℕ → List ℕ → ℕ
 passes block chain = count_by (λ passed. passed == block) chain
 
-pass_here : (block : ℕ) (chain : List ℕ) → passes block (block ∷ chain) ≡ suc (passes block chain)
+pub pass_here : (block : ℕ) (chain : List ℕ) → passes block (block ∷ chain) ≡ suc (passes block chain)
 pass_here block chain =
     sum_by-cons (λ passed. cond (passed == block) 1 0) block chain
     ∙ ap (λ k. cond k 1 0 + passes block chain) ((Decides-eqb block block).1 refl)
     ∙ omega arith
 
-pass_elsewhere : (block passed : ℕ) (chain : List ℕ) → passed ≢ block → passes block (passed ∷ chain) ≡ passes block chain
+pub pass_elsewhere : (block passed : ℕ) (chain : List ℕ) → passed ≢ block → passes block (passed ∷ chain) ≡ passes block chain
 pass_elsewhere block passed chain differ =
     sum_by-cons (λ other. cond (other == block) 1 0) passed chain
     ∙ by_test (passed == block) (λ test. absurd (differ ((Decides-eqb passed block).0 test)))

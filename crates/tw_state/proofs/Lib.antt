@@ -39,3 +39,4 @@ pub mod FreeChains
 pub mod EntryFunctions
 pub mod EntryNames
 pub mod TypedStates
+pub mod Permutations

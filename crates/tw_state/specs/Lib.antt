@@ -17,3 +17,4 @@ pub mod Listed
 pub mod FromCode
 pub mod FreeCells
 pub mod TypedLists
+pub mod Renamings

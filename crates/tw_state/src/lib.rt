@@ -4,9 +4,11 @@
 
 mod free_cells;
 mod names;
+mod renaming;
 mod state;
 mod typing;
 
 pub use free_cells::well_formed;
+pub use renaming::rename;
 pub use state::{Cell, Side, State};
 pub use typing::typed;
