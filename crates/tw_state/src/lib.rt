@@ -6,6 +6,8 @@ mod free_cells;
 mod names;
 mod renaming;
 mod state;
+#[cfg(test)]
+mod tests;
 mod typing;
 
 pub use free_cells::well_formed;
