@@ -1,9 +1,13 @@
 //! States of small programs, worked out by hand.
+ghost use Rattle.tw_syntax.specs.Programs.{program_tree};
+ghost use Rattle.tw_resolve.specs.Declarations.{funs_of};
+ghost use Rattle.tw_check.specs.EntryPoints.{IsEntry};
+
 use crate::{Cell, Side, State, rename, typed, well_formed};
 use bumpalo::Bump;
 use std::alloc::{AllocError, Global};
 use std::test::Fail;
-use tw_check::{Checked, check, find_entry};
+use tw_check::{Checked, Entry, check, find_entry};
 use tw_resolve::resolve;
 use tw_syntax::{
     Alias, Atom, AtomKind, Decl, Expr, ExprKind, Fun, Name, Param, Path, Program, Rhs, Stmt,
@@ -180,6 +184,34 @@ fn free_cells_form_a_chain(rt: HostRuntime) -> Result<(), Fail> {
     Ok(())
 }
 
+/// Whether a state is typed at the start and at the end of an entry.
+fn sides(state: &State, checked: &Checked, entry: Entry) -> (bool, bool)
+    requires { IsEntry (funs_of (program_tree checked.now.resolved.program.now).decls) entry }
+{
+    (
+        typed(state, checked, entry, Side::Start),
+        typed(state, checked, entry, Side::End),
+    )
+}
+
+/// A state, the same one with a value for the result, and that one with another first cell: on which sides they are typed.
+fn sides_of(
+    mut state: State,
+    checked: &Checked,
+    entry: Entry,
+    cell: Cell,
+) -> Result<[(bool, bool); 3], AllocError>
+    requires entry { IsEntry (funs_of (program_tree checked.now.resolved.program.now).decls) entry }
+{
+    let start = sides(&state, checked, entry);
+    state.store.push(Val::U(2))?;
+    let end = sides(&state, checked, entry);
+    if let Some(first) = state.cells.first_mut() {
+        *first = cell;
+    }
+    Ok([start, end, sides(&state, checked, entry)])
+}
+
 #[test]
 fn values_have_the_types_of_names(rt: HostRuntime) -> Result<(), Fail> {
     let alloc = rt.alloc();
@@ -194,15 +226,10 @@ fn values_have_the_types_of_names(rt: HostRuntime) -> Result<(), Fail> {
         (3, 5, 4, false),
     ];
     for (free, number, xs, is) in table {
-        let mut state = two_items(alloc, free, number, xs)?;
-        assert_eq!(rt; typed(&state, &checked, entry, Side::Start), is);
-        assert!(rt; !typed(&state, &checked, entry, Side::End));
-        state.store.push(Val::U(2))?;
-        assert!(rt; !typed(&state, &checked, entry, Side::Start));
-        assert_eq!(rt; typed(&state, &checked, entry, Side::End), is);
-        assert!(rt; state.cells.len() == 3);
-        state.cells[0] = Cell::Live(TargetId(1), Val::B(true));
-        assert!(rt; !typed(&state, &checked, entry, Side::End));
+        let state = two_items(alloc, free, number, xs)?;
+        let other = Cell::Live(TargetId(1), Val::B(true));
+        let found = sides_of(state, &checked, entry, other)?;
+        assert_eq!(rt; found, [(is, false), (false, is), (false, false)]);
     }
     Ok(())
 }
