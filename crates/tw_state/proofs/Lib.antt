@@ -35,3 +35,8 @@ pub mod SoundPrograms
 pub mod WorkedEntry
 pub mod WorkedLists
 pub mod Listed
+pub mod FreeChains
+pub mod EntryFunctions
+pub mod EntryNames
+pub mod TypedStates
+pub mod Permutations

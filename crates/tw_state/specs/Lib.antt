@@ -14,3 +14,7 @@ pub mod Stuck
 pub mod Results
 pub mod Derivations
 pub mod Listed
+pub mod FromCode
+pub mod FreeCells
+pub mod TypedLists
+pub mod Renamings
