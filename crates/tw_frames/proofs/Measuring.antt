@@ -41,12 +41,12 @@ module _ (setting : Setting) where
   measure_determined MeasuresMemSwap MeasuresMemSwap = refl
   measure_determined MeasuresSkip MeasuresSkip = refl
   measure_determined (MeasuresBlock a) (MeasuresBlock b) = ap (λ x. one_more (enclosed x)) (measure_determined a b)
-  measure_determined (MeasuresElse a) (MeasuresElse b) = ap enclosed (measure_determined a b)
+  measure_determined (MeasuresElse a) (MeasuresElse b) = measure_determined a b
   measure_determined (MeasuresIf a b) (MeasuresIf c d) =
-      ap (λ x. one_more (under_if x)) (in_turn_same (ap enclosed (measure_determined a c)) (measure_determined b d))
+      ap (λ x. one_more (under_if (enclosed x))) (in_turn_same (measure_determined a c) (measure_determined b d))
   measure_determined (MeasuresWith a b) (MeasuresWith c d) =
-      let p = ap enclosed (measure_determined a c) in
-      ap one_more (in_turn_same (in_turn_same p (ap enclosed (measure_determined b d))) p)
+      let p = measure_determined a c in
+      ap (λ x. one_more (enclosed x)) (in_turn_same (in_turn_same p (measure_determined b d)) p)
   measure_determined (MeasuresCall fun n named bound a) (MeasuresCall other m named2 bound2 b) =
       ap (λ x. one_more (enclosed x)) (measure_determined a (moved named named2 bound bound2 b))
   measure_determined (MeasuresCall fun n named bound a) (MeasuresCallZero none) = not_both none bound
@@ -103,18 +103,18 @@ module _ (setting : Setting) where
         let a = stmt_measured first down.0 in
         let b = stmt_measured rest down.1 in
         (in_turn a.0 b.0, MeasuresThen a.1 b.1)
-    stmt_measured (Else at stmts) down = let a = stmt_measured stmts down in (enclosed a.0, MeasuresElse a.1)
+    stmt_measured (Else at stmts) down = let a = stmt_measured stmts down in (a.0, MeasuresElse a.1)
     stmt_measured (LetStmt at forward target rhs) down = rhs_measured rhs down
     stmt_measured (SwapStmt at left right) down = (one_more no_steps, MeasuresSwap)
     stmt_measured (MemSwapStmt at pointer place) down = (one_more no_steps, MeasuresMemSwap)
     stmt_measured (IfStmt at cond first other) down =
         let a = stmt_measured first down.0 in
         let b = stmt_measured other down.1 in
-        (one_more (under_if (in_turn (enclosed a.0) b.0)), MeasuresIf a.1 b.1)
+        (one_more (under_if (enclosed (in_turn a.0 b.0))), MeasuresIf a.1 b.1)
     stmt_measured (WithStmt at setup work) down =
         let a = stmt_measured setup down.0 in
         let b = stmt_measured work down.1 in
-        (one_more (in_turn (in_turn (enclosed a.0) (enclosed b.0)) (enclosed a.0)), MeasuresWith a.1 b.1)
+        (one_more (enclosed (in_turn (in_turn a.0 b.0) a.0)), MeasuresWith a.1 b.1)
     stmt_measured (BlockStmt at body) down = let a = stmt_measured body down in (one_more (enclosed a.0), MeasuresBlock a.1)
     stmt_measured (SkipStmt at) down = (one_more no_steps, MeasuresSkip)
 

@@ -28,7 +28,7 @@ in_turn first rest = record {
   if_depth = max first.if_depth rest.if_depth;
 }
 
--- a block, or the body of a function, encloses what runs in it
+-- a block, or the body of a function, encloses what runs in it; blocks one after the other are as deep as one block of all
 abbrev pub enclosed : Measured → Measured
 enclosed inner = record inner { depth = 1 + inner.depth }
 
@@ -55,14 +55,14 @@ pub data Measures (setting : Setting) : ℕ → StmtTree → Measured → Type 0
   -- a block
   MeasuresBlock : {own at body : _} {a : Measured} → Measures setting own body a → Measures setting own (BlockStmt at body) (one_more (enclosed a))
   -- an `if`: both branches count, and each is a block
-  MeasuresElse : {own at stmts : _} {a : Measured} → Measures setting own stmts a → Measures setting own (Else at stmts) (enclosed a)
+  MeasuresElse : {own at stmts : _} {a : Measured} → Measures setting own stmts a → Measures setting own (Else at stmts) a
   MeasuresIf : {own at cond first other : _} {a b : Measured}
       → Measures setting own first a → Measures setting own other b
-      → Measures setting own (IfStmt at cond first other) (one_more (under_if (in_turn (enclosed a) b)))
-  -- `with S do R`: S, then R, then the reverse of S, which runs as much as S
+      → Measures setting own (IfStmt at cond first other) (one_more (under_if (enclosed (in_turn a b))))
+  -- `with S do R`: S, then R, then the reverse of S, which runs as much as S; each is a block
   MeasuresWith : {own at setup work : _} {a b : Measured}
       → Measures setting own setup a → Measures setting own work b
-      → Measures setting own (WithStmt at setup work) (one_more (in_turn (in_turn (enclosed a) (enclosed b)) (enclosed a)))
+      → Measures setting own (WithStmt at setup work) (one_more (enclosed (in_turn (in_turn a b) a)))
   -- a call and an un-call run the body of the callee; with the bound 0 no body runs
   MeasuresCall : {callee : NameTree} {own : ℕ} {at forward target bound args : _} {a : Measured} (fun : FunTree) (n : ℕ)
       → fun_named setting callee.text ≡ Some fun → callee_bound own bound ≡ Some n → Measures setting n fun.body a
@@ -75,6 +75,10 @@ pub data MeasuresEntry (setting : Setting) (fun : FunTree) (bound : Option ℕ) 
   MeasuresBody : {a : Measured} (n : ℕ)
       → running_bound bound ≡ Some n → Measures setting n fun.body a → MeasuresEntry setting fun bound (enclosed a)
   MeasuresNoBody : running_bound bound ≡ None → MeasuresEntry setting fun bound no_steps
+
+-- the counts that are reported: a greater one than a `u64` holds is the greatest `u64`
+abbrev pub capped : Measured → Measured
+capped measured = record { statements = reported measured.statements; depth = reported measured.depth; if_depth = reported measured.if_depth }
 
 -- so much does an entry of the program run
 pub record IsMeasured (setting : Setting) (entry : Entry) (measured : Measured) : Type 0 where
