@@ -1,1 +1,3 @@
 pub mod Wires
+pub mod Measuring
+pub mod Descending

@@ -1,2 +1,4 @@
 pub mod Layout
 pub mod Cost
+pub mod Measures
+pub mod MeasureExamples

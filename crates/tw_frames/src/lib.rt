@@ -2,6 +2,8 @@
 //! The definitions of `specs/` give the layout of the wires and the inventory of the gates, by recursion on the function.
 #![tactic(auto)]
 
+mod measured;
 mod regions;
 
+pub use measured::Measured;
 pub use regions::{WireLayout, layout};

@@ -64,6 +64,11 @@ function_of widths program types typed k fun found =
     let number = number_found (funs_of program.decls) [] k fun (first_of (funs_of program.decls) [] (each_first Holds second third (each_rest Holds first (second ++ third) names)) k fun found) in
     record { name = fun.name.text; number = k; numbered = number; named = ap (option_and_then (slice_get (funs_of program.decls))) number ∙ found }
 
+-- its number is the one by which it was found
+pub function_of-number : (widths : Widths) (program : ProgramTree) (types : Name → Option Ty) (typed : IsTyped widths program types) (k : ℕ) (fun : FunTree) (found : slice_get (funs_of program.decls) k ≡ Some fun) → (function_of widths program types typed k fun found).number ≡ k
+unfolding function_of
+function_of-number widths program types typed k fun found = refl
+
 -- whether names are different
 all_different : List Name → Bool
 all_different [] = true
