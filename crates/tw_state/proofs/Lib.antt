@@ -40,3 +40,4 @@ pub mod EntryFunctions
 pub mod EntryNames
 pub mod TypedStates
 pub mod Permutations
+pub mod EntryEncodings

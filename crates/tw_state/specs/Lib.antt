@@ -18,3 +18,4 @@ pub mod FromCode
 pub mod FreeCells
 pub mod TypedLists
 pub mod Renamings
+pub mod EntryEncoding
