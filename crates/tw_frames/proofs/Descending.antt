@@ -18,7 +18,7 @@ use Rattle.tw_state.proofs.Basics.{some_value, by_option, by_test}
 use Rattle.tw_state.proofs.CallEnds.{MayCall, CallsEarlier, CallsItself, IsLess, RhsDescends, StmtDescends}
 use Rattle.tw_state.proofs.EntryFunctions.{function_of, function_of-number}
 use Rattle.tw_state.proofs.SoundPrograms.{sound}
-use Rattle.tw_frames.proofs.Measuring.{Descends}
+use Rattle.tw_frames.proofs.OneMeasure.{Descends}
 
 -- whether a bound is the caller's own, less a positive number
 is_less : Option BoundTree → Bool

@@ -1,3 +1,7 @@
 pub mod Wires
-pub mod Measuring
+pub mod OneMeasure
 pub mod Descending
+pub mod Marking
+pub mod Finding
+pub mod Knowing
+pub mod WithinLimits
