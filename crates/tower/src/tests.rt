@@ -97,7 +97,7 @@ fn prints_programs_in_their_one_form(rt: HostRuntime) -> Result<(), AllocError> 
 }
 
 /// A text with this number of copies of a part in its middle.
-fn repeated(
+pub fn repeated(
     rt: &HostRuntime,
     front: &str,
     part: &str,
