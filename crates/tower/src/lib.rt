@@ -13,6 +13,8 @@ mod ending;
 mod first_form;
 mod format;
 mod invert;
+#[cfg(test)]
+mod measure_tests;
 mod options;
 mod request;
 mod settings;

@@ -30,10 +30,10 @@ min_twice m a = omega arith
 abbrev greatest : ℕ
 greatest = 2 ^ 64 - 1
 
-abbrev of_counts : ℕ → ℕ → ℕ → Measured
+abbrev pub of_counts : ℕ → ℕ → ℕ → Measured
 of_counts statements depth if_depth = record { statements = statements; depth = depth; if_depth = if_depth }
 
-same_counts : {a b c x y z : ℕ} → a ≡ x → b ≡ y → c ≡ z → of_counts a b c ≡ of_counts x y z
+pub same_counts : {a b c x y z : ℕ} → a ≡ x → b ≡ y → c ≡ z → of_counts a b c ≡ of_counts x y z
 same_counts p q r = λ i. of_counts (p i) (q i) (r i)
 
 pub capped_twice : (a : Measured) → capped (capped a) ≡ capped a

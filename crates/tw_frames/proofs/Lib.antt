@@ -5,3 +5,4 @@ pub mod Marking
 pub mod Finding
 pub mod Knowing
 pub mod WithinLimits
+pub mod WorkedMeasures

@@ -54,7 +54,7 @@ take_item =
     (Then (LetStmt (place 13 9) true (named (codes "r") 13 13) (ExprRhs (OpExpr (place 13 18) op.Add (variable (codes "acc") 13 18) (NumberAtom (place 13 24) 1)))) Nothing)))
 
 -- `let out <- length[n - 1](next, r);`
-abbrev count_rest : StmtTree
+abbrev pub count_rest : StmtTree
 count_rest = LetStmt (place 15 9) true (named (codes "out") 15 13) (CallRhs (named (codes "length") 15 20) (Some (LessBound (named (codes "n") 15 27) 1)) (named (codes "next") 15 34 ∷ named (codes "r") 15 40 ∷ []))
 
 -- `type list = (uint, ptr<list>);` and
@@ -62,7 +62,7 @@ count_rest = LetStmt (place 15 9) true (named (codes "out") 15 13) (CallRhs (nam
 abbrev choice : StmtTree
 choice = IfStmt (place 6 5) (whole (codes "e") 6 8) (Then give_acc Nothing) (Else (place 8 7) (Then (WithStmt (place 9 7) take_item (Then count_rest Nothing)) Nothing))
 
-abbrev list_length : FunTree
+abbrev pub list_length : FunTree
 list_length = record {
   name = named (codes "length") 2 5;
   bound = Some (named (codes "n") 2 12);
@@ -77,7 +77,7 @@ abbrev lists : ProgramTree
 lists = record { decls = AliasDecl (record { name = named (codes "list") 1 6; body = PairType (place 1 13) (UintType (place 1 14)) (PtrType (place 1 20) (list 1 24)) }) ∷ FunDecl list_length ∷ [] }
 
 -- in words of 3 bits and addresses of 2
-abbrev setting : Setting
+abbrev pub setting : Setting
 setting = setting_of (record { word = 3; addr = 2 }) lists (λ name. if bytes_eq name (codes "list") then Some (PairTy Word (Pointer 0)) else None)
 
 abbrev act : ℕ → Activation
