@@ -10,4 +10,4 @@ mod tests;
 mod transpose;
 
 pub use answer::simulate;
-pub use lines::LinesFault;
+pub use lines::{LinesFault, too_many};

@@ -2,7 +2,7 @@
 ghost use Rattle.std.specs.Prelude.{◌≡◌, ◌==◌, ◌||◌, ℕ, Bool, List, ◌++◌, length, Err, IfSome, IfOk, IfErr};
 ghost use Rattle.std.specs.List.{list_all};
 ghost use Rattle.std.specs.Option.{IfNone};
-ghost use Rattle.tw_sim.specs.BitLines.{bit_line, AreLinesOf, AreRefused, HasNoLine};
+ghost use Rattle.tw_sim.specs.BitLines.{bit_line, AreLinesOf, AreRefused, HasNoLine, too_many};
 
 use thiserror::Error;
 use tw_text::{Counted, Pos, Refusal, STATES_LIMIT};
@@ -19,6 +19,14 @@ pub enum LinesFault {
     /// Out of memory.
     #[error("out of memory")]
     Memory,
+}
+
+/// The refusal of more states, or lines of bits, than the limit. The limit and one more are counted.
+pub fn too_many() -> Refusal
+    ensures { result ≡ too_many }
+{
+    let at = Pos { line: 1, col: 1 };
+    Refusal::passed(Counted::States, STATES_LIMIT + 1, at)
 }
 
 /// Whether each byte is the character of a bit.
@@ -65,10 +73,6 @@ pub fn check_lines(wires: usize, text: &[u8]) -> Result<(), LinesFault>
     if rest.is_empty() {
         Ok(())
     } else {
-        Err(LinesFault::Over(Refusal::passed(
-            Counted::States,
-            STATES_LIMIT + 1,
-            Pos { line: 1, col: 1 },
-        )))
+        Err(LinesFault::Over(too_many()))
     }
 }

@@ -7,6 +7,8 @@ use Rattle.tw_text.specs.declared.refusal.Counted.TheVariants as counted
 use Rattle.tw_text.specs.declared.refusal.Rule.{Rule}
 use Rattle.tw_text.specs.declared.refusal.Rule.TheVariants as rule
 use Rattle.tw_text.specs.declared.refusal.Refusal.{Refusal}
+use Rattle.tw_text.specs.declared.refusal.StateWhy.{StateWhy}
+use Rattle.tw_text.specs.declared.refusal.StateWhy.TheVariants as state_why
 use Rattle.tw_text.specs.declared.diagnostic.Diagnostic.{Diagnostic}
 use Rattle.tw_text.specs.declared.diagnostic.Diagnostic.TheVariants as diagnostic
 use Rattle.tw_text.specs.Limits.{limit_of}
@@ -58,6 +60,11 @@ rule_name rule.WithNotUndone = codes "with-not-undone"
 rule_name rule.Left = codes "left"
 rule_name (rule.Limit limit) = counted_name limit
 
+-- the name of the refusal of a text of states
+abbrev pub state_why_name : StateWhy → List ℕ
+state_why_name state_why.Syntax = codes "bad-state syntax"
+state_why_name state_why.Chain = codes "bad-state chain"
+
 -- the line of a refusal that has a name alone
 abbrev pub plain_line : List ℕ → List ℕ
 plain_line name = codes "refused " ++ (name ++ codes "\n")
@@ -89,6 +96,7 @@ diagnostic_line diagnostic.Usage = plain_line (codes "usage")
 diagnostic_line (diagnostic.Refused refusal) = refusal_line refusal
 diagnostic_line (diagnostic.BadGateText line) = number_line (codes "bad-gate-text") line
 diagnostic_line (diagnostic.BitsLength line) = number_line (codes "bits-length") line
+diagnostic_line (diagnostic.BadState line why) = number_line (state_why_name why) line
 diagnostic_line diagnostic.LevelT = plain_line (codes "level-t")
 diagnostic_line diagnostic.NotBuilt = plain_line (codes "not-built")
 

@@ -1,9 +1,9 @@
 //! Diagnostics: the reason of a refusal, and its line, composed on the stack.
 ghost use Rattle.std.specs.Prelude.{◌≡◌, ◌≤◌, length};
-ghost use Rattle.tw_text.specs.Refusals.{counted_name, rule_name, plain_line, place_line, limit_line, number_line, refusal_line, diagnostic_line};
+ghost use Rattle.tw_text.specs.Refusals.{counted_name, rule_name, state_why_name, plain_line, place_line, limit_line, number_line, refusal_line, diagnostic_line};
 
 use crate::place::Pos;
-use crate::refusal::{Counted, Refusal, Rule};
+use crate::refusal::{Counted, Refusal, Rule, StateWhy};
 use arrayvec::ArrayString;
 use itoa::Buffer;
 
@@ -21,6 +21,8 @@ pub enum Diagnostic {
     BadGateText { line: u32 },
     /// This line of bits is wrong. Lines count from 1.
     BitsLength { line: u32 },
+    /// A text of states is wrong at this line, or the state that begins there is not well-formed. Lines count from 1.
+    BadState { line: u32, why: StateWhy },
     /// A gate file of level t can't be simulated.
     LevelT,
     /// The source is a program that is not compiled yet.
@@ -29,8 +31,8 @@ pub enum Diagnostic {
 
 impl Diagnostic {
     /// The line of the diagnostic, with its newline. It is `refused NAME at LINE:COL` for a rule of the source,
-    /// `refused limit NAME found F limit L` for a limit, `refused NAME at line N` for a line of a gate file or of bits, and
-    /// `refused NAME` for the others. All numbers are decimal.
+    /// `refused limit NAME found F limit L` for a limit, `refused NAME at line N` for a line of a gate file, of bits or of
+    /// states, and `refused NAME` for the others. All numbers are decimal.
     pub fn line(&self) -> DiagnosticLine
         ensures { result.bytes ≡ diagnostic_line self.now }
     {
@@ -39,6 +41,7 @@ impl Diagnostic {
             Diagnostic::Refused(refusal) => refusal.line(),
             Diagnostic::BadGateText { line } => number_line("bad-gate-text", *line),
             Diagnostic::BitsLength { line } => number_line("bits-length", *line),
+            Diagnostic::BadState { line, why } => number_line(why.name(), *line),
             Diagnostic::LevelT => plain_line("level-t"),
             Diagnostic::NotBuilt => plain_line("not-built"),
         }
@@ -96,6 +99,19 @@ impl Rule {
             Rule::WithNotUndone => "with-not-undone",
             Rule::Left => "left",
             Rule::Limit(counted) => counted.name(),
+        }
+    }
+}
+
+impl StateWhy {
+    /// The name of the refusal in its line.
+    pub fn name(&self) -> &'static str
+        ensures name { result.now ≡ state_why_name self.now }
+        ensures short { length result.now ≤ 16 }
+    {
+        match self {
+            StateWhy::Syntax => "bad-state syntax",
+            StateWhy::Chain => "bad-state chain",
         }
     }
 }

@@ -25,5 +25,5 @@ pub use limits::{
 };
 pub use place::{Pos, place_after};
 pub use prefix::after;
-pub use refusal::{Arena, Counted, Fault, Refusal, Rule};
+pub use refusal::{Arena, Counted, Fault, Refusal, Rule, StateWhy};
 pub use whole::whole_decimal;

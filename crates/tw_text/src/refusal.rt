@@ -32,6 +32,15 @@ pub enum Counted {
     States,
 }
 
+/// Why a text of states is refused.
+#[derive(Debug, Clone, Copy, PartialEq, Eq)]
+pub enum StateWhy {
+    /// A line is wrong or missing.
+    Syntax,
+    /// The state is not well-formed: the chain from its head misses a free cell or passes a live one, or does not end.
+    Chain,
+}
+
 /// The reason why a source is refused: the rule that it breaks, or the limit that it passes.
 #[derive(Debug, Clone, Copy, PartialEq, Eq)]
 pub enum Rule {

@@ -1,6 +1,7 @@
 //! Concrete numbers, prefixes, places, lines of diagnostics and limits, each against a written value.
 use crate::{
-    Counted, Diagnostic, Fault, Pos, Refusal, Rule, after, place_after, read_decimal, split_digits,
+    Counted, Diagnostic, Fault, Pos, Refusal, Rule, StateWhy, after, place_after, read_decimal,
+    split_digits,
 };
 use std::alloc::AllocError;
 
@@ -89,6 +90,20 @@ fn diagnostics_have_lines(rt: HostRuntime) {
         (
             Diagnostic::BitsLength { line: 1 },
             "refused bits-length at line 1\n",
+        ),
+        (
+            Diagnostic::BadState {
+                line: 3,
+                why: StateWhy::Syntax,
+            },
+            "refused bad-state syntax at line 3\n",
+        ),
+        (
+            Diagnostic::BadState {
+                line: 1,
+                why: StateWhy::Chain,
+            },
+            "refused bad-state chain at line 1\n",
         ),
         (Diagnostic::LevelT, "refused level-t\n"),
         (Diagnostic::NotBuilt, "refused not-built\n"),

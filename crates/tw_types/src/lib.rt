@@ -13,5 +13,5 @@ mod widths;
 pub use coding::{decode_from, encode_into};
 pub use targets::Targets;
 pub use types::{EXTENT_LIMIT, TYPE_DEPTH_LIMIT, TargetId, Ty, same_ty, size_of};
-pub use values::{Val, copy_val, has_type, same, zero_of};
+pub use values::{Val, copy_val, has_type, pair, same, zero_of};
 pub use widths::{ADDR_LIMIT, WORD_LIMIT, Widths};

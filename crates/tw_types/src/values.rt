@@ -23,7 +23,7 @@ pub enum Val {
 }
 
 /// The pair of two values. An error: out of memory.
-pub(crate) fn pair(alloc: Global, first: Val, second: Val) -> Result<Val, AllocError>
+pub fn pair(alloc: Global, first: Val, second: Val) -> Result<Val, AllocError>
     ensures { IfOk result (λ val. value_of val ≡ PairValue (value_of first) (value_of second)) }
 {
     let first = Box::new(alloc, first)?;

@@ -1,6 +1,6 @@
 //! The widths of words and addresses.
 ghost use Rattle.std.specs.Prelude.{◌≡◌, is_some, Decides, IfSome};
-ghost use Rattle.tw_types.specs.Types.{AreInRange};
+ghost use Rattle.tw_types.specs.Types.{AreInRange, block_count};
 
 use std::marker::Model;
 
@@ -45,5 +45,12 @@ impl Widths {
         } else {
             None
         }
+    }
+
+    /// The number of blocks: one less than there are addresses.
+    pub fn block_count(self) -> u32
+        ensures { result ≡ block_count self }
+    {
+        (1 << self.addr) - 1
     }
 }

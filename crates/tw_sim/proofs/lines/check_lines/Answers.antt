@@ -11,4 +11,4 @@ loop-line-preserved c = read_more c.in-Some.behind.now c.loop-line.invariant c.i
 
 pub returns-else-is_empty-2-clause-refused : goal.returns-else-is_empty-2-clause-refused
 returns-else-is_empty-2-clause-refused c =
-    rw c.passed.ensures (read_many c.loop-line.invariant (omega arith) (some_bytes c.loop-line.rest.now _ c.is_empty-2.ensures c.if-is_empty-2.false))
+    rw c.too_many.ensures (read_many c.loop-line.invariant (omega arith) (some_bytes c.loop-line.rest.now _ c.is_empty-2.ensures c.if-is_empty-2.false))
