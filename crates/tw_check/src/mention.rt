@@ -8,6 +8,9 @@ use crate::variable::push_variables;
 use std::alloc::AllocError;
 use tw_syntax::{Name, No, Path, Stmt, StmtKind};
 
+/// About how many variables a statement mentions. A list gets room for so many, and grows if there are more.
+const NAMES_OF_STATEMENT: usize = 4;
+
 /// Appends the roots of two paths. An error: out of memory.
 fn push_roots<'a>(
     names: &mut Vec<Name<'a>>,
@@ -26,6 +29,7 @@ fn push_roots<'a>(
 pub fn push_mentioned<'a>(names: &mut Vec<Name<'a>>, stmts: &[Stmt<'a>]) -> Result<(), AllocError>
     ensures { OnOk result (texts_of names.new.items ≡ texts_of names.old.items ++ names_of (stmts_tree stmts.now)) }
 {
+    names.reserve(stmts.len().saturating_mul(NAMES_OF_STATEMENT))?;
     for stmt in stmts {
         push_of_stmt(names, stmt)?;
     }

@@ -49,7 +49,7 @@ impl<'a> NameSet<'a> {
     ) -> Result<Vec<(&'a str, bool)>, AllocError>
         ensures { IfOk result (λ notes. notes.items ≡ noted (set_of self.now) names.now) }
     {
-        let mut notes = Vec::new(alloc);
+        let mut notes = Vec::with_capacity(alloc, names.len())?;
         for name in names {
             notes.push((name.text, self.has(name.text)))?;
         }

@@ -8,3 +8,4 @@ pub mod SpeltStatements
 pub mod SpeltPrograms
 pub mod GoodWords
 pub mod ReadBack
+pub mod NamesOfAliases

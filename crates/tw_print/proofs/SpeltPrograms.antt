@@ -35,7 +35,7 @@ fun_spelt f =
     ▹ stmts_spelt 1 f.body
     ▹ ((space ▹ space ▹ sign symbols.Return refl ▹ space) ▹ name f.returned refl ▹ (sign symbols.Semicolon refl ▹ newline ▹ sign symbols.CloseBrace refl ▹ newline))
 
-decl_spelt : {us : List Lexed} (f : DeclForm) → Spelt Clear Clear (decl_print (decl_tree f)) (decl_text f us) us
+pub decl_spelt : {us : List Lexed} (f : DeclForm) → Spelt Clear Clear (decl_print (decl_tree f)) (decl_text f us) us
 decl_spelt (form.Alias p n text q body r) =
     (sign symbols.Type refl ▹ space) ▹ name text refl ▹ (space ▹ sign symbols.Define refl ▹ space) ▹ loose (type_spelt body) ▹ (sign symbols.Semicolon refl ▹ newline)
 decl_spelt (form.Fun fun) = fun_spelt fun

@@ -10,6 +10,7 @@ pub mod Naming
 pub mod Parameters
 pub mod Params
 pub mod Parts
+pub mod Pointees
 pub mod Refusals
 pub mod Trying
 pub mod Ending

@@ -4,10 +4,11 @@ ghost use Rattle.tw_syntax.specs.Names.{path_tree};
 ghost use Rattle.tw_syntax.specs.Programs.{program_tree};
 ghost use Rattle.tw_syntax.specs.Types.{written_tree};
 ghost use Rattle.tw_types.specs.FromCode.{ty_of};
-ghost use Rattle.tw_resolve.specs.Declarations.{funs_of, is_one_of};
+ghost use Rattle.tw_types.specs.Types.{Pointer};
+ghost use Rattle.tw_resolve.specs.Declarations.{funs_of, is_one_of, target_number};
 ghost use Rattle.tw_resolve.specs.Expressions.{texts_of};
 ghost use Rattle.tw_resolve.specs.Resolved.{locals_at, param_type_at, params_at, path_type_at, resolved_setting, result_at, type_at, variable_names_at, variables_at};
-ghost use Rattle.tw_resolve.specs.Setting.{type_of};
+ghost use Rattle.tw_resolve.specs.Setting.{pointee, type_of};
 ghost use Rattle.tw_resolve.specs.Tables.{AreTargets};
 ghost use Rattle.tw_resolve.specs.Variables.{variables_in};
 
@@ -18,7 +19,7 @@ use crate::variables::Variables;
 use std::alloc::{AllocError, Global};
 use tw_syntax::{Path, Written};
 use tw_text::Arena;
-use tw_types::{Targets, Ty};
+use tw_types::{TargetId, Targets, Ty};
 
 impl<'a> Resolved<'a> {
     /// The targets of pointers in the order in which they were first seen, each as it is written, and with its type.
@@ -104,6 +105,38 @@ impl<'a> Resolved<'a> {
             variables.at(at)
         } else {
             variables.at(at + 1)
+        }
+    }
+
+    /// The number of the target that is written as this type. `None` if no target is. An error: out of memory.
+    pub fn target_of(
+        &self,
+        alloc: Global,
+        written: &Written,
+    ) -> Result<Option<TargetId>, AllocError>
+        ensures { IfOk result (λ number. option_map (λ id. id.0) number ≡ target_number (resolved_setting self.now).scope.targets (written_tree written.now)) }
+    {
+        self.tables.targets.number_of(alloc, written)
+    }
+
+    /// The type that a target denotes. `None` if there is no such target.
+    pub fn pointee(&self, target: TargetId) -> Option<Ty<'a>>
+        ensures { option_map ty_of result ≡ pointee (resolved_setting self.now) (Some (Pointer target.0)) }
+    {
+        if target.0 < self.targets.len() {
+            Some(self.targets.ty(target))
+        } else {
+            None
+        }
+    }
+
+    /// The type that an alias denotes. `None` if there is no such alias.
+    pub fn named_type(&self, name: &str) -> Option<Ty<'a>>
+        ensures { option_map ty_of result ≡ (resolved_setting self.now).types name.now }
+    {
+        match self.tables.types.get(name) {
+            Some(sized) => Some(sized.ty),
+            None => None,
         }
     }
 
