@@ -1,5 +1,5 @@
 -- What a command did if its program is refused.
-use Rattle.std.proofs.Common.{◌≡◌, sym, subst, ℕ, List, Option, None, Result, Ok, Err, IfOk, IfErr, refl}
+use Rattle.std.proofs.Common.{◌≡◌, ◌∙◌, ap, sym, subst, ℕ, List, Option, None, Result, Ok, Err, IfOk, IfErr, refl}
 use Rattle.std.specs.Result.{IsErrAnd}
 use Rattle.tw_text.specs.declared.refusal.Refusal.{Refusal}
 use Rattle.tw_text.specs.declared.refusal.Fault.{Fault}
@@ -33,6 +33,12 @@ pub accepted_if_kept : (widths : Widths) (resolved : Resolved) (result : Result 
 accepted_if_kept widths resolved (Ok checked) typed tries same =
     subst (λ (r : Resolved). IsAccepted widths (program_tree r.program.now)) (sym same) (is_accepted widths (program_tree resolved.program.now) typed tries.kept)
 accepted_if_kept widths resolved (Err why) typed tries same = tt
+
+-- a check keeps the widths
+pub widths_if_kept : (widths : Widths) (resolved : Resolved) (result : Result Checked Fault) → resolved.tables.types.widths ≡ widths
+    → IfOk result (λ checked. checked.resolved ≡ resolved) → IfOk result (λ checked. checked.resolved.tables.types.widths ≡ widths)
+widths_if_kept widths resolved (Ok checked) is same = ap (λ (r : Resolved). r.tables.types.widths) same ∙ is
+widths_if_kept widths resolved (Err why) is same = tt
 
 -- the first rule that is broken, by the call that found it
 module _ (widths : Widths) (bytes : List ℕ) where

@@ -20,6 +20,7 @@ key_among-text key.Addr = refl
 key_among-text key.Entry = refl
 key_among-text key.Bound = refl
 key_among-text key.Inverse = refl
+key_among-text key.Back = refl
 
 pub key_among-is : (word : List ℕ) (list : List Key) (k : Key) → key_among word list ≡ Some k → word ≡ key_text k
 key_among-is word [] k e = cc
@@ -37,7 +38,8 @@ key_at zero = key.Word
 key_at (suc zero) = key.Addr
 key_at (suc (suc zero)) = key.Entry
 key_at (suc (suc (suc zero))) = key.Bound
-key_at (suc (suc (suc (suc n)))) = key.Inverse
+key_at (suc (suc (suc (suc zero)))) = key.Inverse
+key_at (suc (suc (suc (suc (suc n))))) = key.Back
 
 key_at-place : (k : Key) → key_at (key_place k) ≡ k
 key_at-place key.Word = refl
@@ -45,6 +47,7 @@ key_at-place key.Addr = refl
 key_at-place key.Entry = refl
 key_at-place key.Bound = refl
 key_at-place key.Inverse = refl
+key_at-place key.Back = refl
 
 pub one_place : (k other : Key) → key_place k ≡ key_place other → k ≡ other
 one_place k other e = sym (key_at-place k) ∙ ap key_at e ∙ key_at-place other

@@ -10,7 +10,7 @@ use Rattle.tower.specs.declared.status.Status.{Status}
 use Rattle.tower.specs.declared.status.Status.TheVariants as status
 use Rattle.tower.specs.declared.ending.Unanswered.{Unanswered}
 use Rattle.tower.specs.declared.ending.Unanswered.TheVariants as unanswered
-use Rattle.tower.specs.Outcomes.{Outcome, Prints, Refuses, rule_status, refusal_status, outcome_status, outcome_text}
+use Rattle.tower.specs.Outcomes.{Outcome, Prints, PrintsStuck, Refuses, rule_status, refusal_status, outcome_status, outcome_text}
 use Rattle.tower.specs.Answer.{Answer, Gave, GaveWhole}
 use Rattle.tower.specs.Ending.{Did, Refused, Finished, IsKept}
 
@@ -31,6 +31,7 @@ refusal-is_answer other = refl
 
 outcome-is_answer : (outcome : Outcome) → is_answer (outcome_status outcome) ≡ true
 outcome-is_answer (Prints text) = refl
+outcome-is_answer (PrintsStuck text) = refl
 outcome-is_answer (Refuses why) = refusal-is_answer why
 
 module _ {K : Type 0} (taken : K → Option (List ℕ)) (faults : K → ℕ) where
@@ -47,12 +48,14 @@ module _ {K : Type 0} (taken : K → Option (List ℕ)) (faults : K → ℕ) whe
   -- what the command did, then how the call finished
   pub closes : (old between new : K) (did : Result (Unit {0}) Unanswered) (ended : Status) (IsAnswer : Outcome → Type 0) → Did taken faults old between did IsAnswer → Finished taken faults between new did ended → Closes old new ended IsAnswer
   closes old between new (Ok done) ended IsAnswer printed finished =
-      Whole (Prints printed.text) printed.answer finished.0 (rw (finished.1) printed.took) (ap faults finished.1 ∙ printed.steady)
+      Whole printed.outcome printed.answer (finished.0 ∙ sym printed.status) (rw (finished.1) printed.took) (ap faults finished.1 ∙ printed.steady)
+  closes old between new (Err unanswered.Stuck) ended IsAnswer printed finished =
+      Whole printed.outcome printed.answer (finished.0 ∙ sym printed.status) (rw (finished.1) printed.took) (ap faults finished.1 ∙ printed.steady)
   closes old between new (Err (unanswered.Refused why)) ended IsAnswer refused finished =
       closes_refused old new ended IsAnswer why refused.0 (subst (λ (k : K). Refused taken faults k new why ended) refused.1 finished)
   closes old between new (Err unanswered.Memory) ended IsAnswer unwritten finished = Unwritten finished.0 (finished.1 ∙ unwritten)
   closes old between new (Err unanswered.WriteFault) ended IsAnswer broke finished =
-      Broken (Prints broke.text) broke.answer finished.0 (rw (finished.1) broke.took) (rw (finished.1) broke.cause)
+      Broken broke.outcome broke.answer finished.0 (rw (finished.1) broke.took) (rw (finished.1) broke.cause)
 
   whole_gave : (words : List (List ℕ)) (bytes : List ℕ) (before now : Option (List ℕ)) (ended : Status) → is_answer ended ≡ true → GaveWhole words bytes before now ended → Gave words bytes before now ended
   whole_gave words bytes before now status.Memory is gave = cc

@@ -15,6 +15,7 @@ use Rattle.tw_gatetext.specs.Refused.{IsRefusedText}
 use Rattle.tw_sim.specs.declared.lines.LinesFault.{LinesFault}
 use Rattle.tw_sim.specs.declared.lines.LinesFault.TheVariants as lines_fault
 use Rattle.tw_sim.specs.BitLines.{AreRefused}
+use Rattle.tower.specs.declared.status.Status.TheVariants as status
 use Rattle.tower.specs.declared.ending.Unanswered.{Unanswered}
 use Rattle.tower.specs.declared.ending.Unanswered.TheVariants as unanswered
 use Rattle.tower.specs.Outcomes.{Outcome, Prints, Refuses}
@@ -54,14 +55,15 @@ module _ {K : Type 0} (taken : K → Option (List ℕ)) (faults : K → ℕ) whe
   -- a text that answers was written, in whole or in part
   pub did_break : (old new : K) (text : List ℕ) (fault : WriteFault) (result : Result (Unit {0}) Unanswered) (IsAnswer : Outcome → Type 0) → IsErrAnd result (λ e. e ≡ unanswered.WriteFault) → IsAnswer (Prints text) →
       Wrote taken faults old new (Err fault) text → Did taken faults old new result IsAnswer
-  did_break old new text fault result IsAnswer is answer wrote = as_error old new result unanswered.WriteFault IsAnswer is (record { text = text; answer = answer; took = wrote.broken; cause = wrote.cause })
+  did_break old new text fault result IsAnswer is answer wrote = as_error old new result unanswered.WriteFault IsAnswer is (record { outcome = Prints text; answer = answer; took = wrote.broken; cause = wrote.cause })
 
-  pub did_print : (old new : K) (text : List ℕ) (done : Unit {0}) (IsAnswer : Outcome → Type 0) → IsAnswer (Prints text) → Wrote taken faults old new (Ok done) text → Printed taken faults old new IsAnswer
-  did_print old new text done IsAnswer answer wrote = record { text = text; answer = answer; took = wrote.whole; steady = wrote.steady }
+  pub did_print : (old new : K) (text : List ℕ) (done : Unit {0}) (IsAnswer : Outcome → Type 0) → IsAnswer (Prints text) → Wrote taken faults old new (Ok done) text → Printed taken faults old new status.Ok IsAnswer
+  did_print old new text done IsAnswer answer wrote = record { outcome = Prints text; answer = answer; status = refl; took = wrote.whole; steady = wrote.steady }
 
   -- an answer to a part of the input is an answer to the input
   pub did_as : {IsAnswer IsWhole : Outcome → Type 0} (old new : K) (result : Result (Unit {0}) Unanswered) → ((outcome : Outcome) → IsAnswer outcome → IsWhole outcome) → Did taken faults old new result IsAnswer → Did taken faults old new result IsWhole
-  did_as old new (Ok done) whole did = record { text = did.text; answer = whole (Prints did.text) did.answer; took = did.took; steady = did.steady }
+  did_as old new (Ok done) whole did = record { outcome = did.outcome; answer = whole did.outcome did.answer; status = did.status; took = did.took; steady = did.steady }
+  did_as old new (Err unanswered.Stuck) whole did = record { outcome = did.outcome; answer = whole did.outcome did.answer; status = did.status; took = did.took; steady = did.steady }
   did_as old new (Err (unanswered.Refused why)) whole did = (whole (Refuses why) did.0, did.1)
   did_as old new (Err unanswered.Memory) whole did = did
-  did_as old new (Err unanswered.WriteFault) whole did = record { text = did.text; answer = whole (Prints did.text) did.answer; took = did.took; cause = did.cause }
+  did_as old new (Err unanswered.WriteFault) whole did = record { outcome = did.outcome; answer = whole did.outcome did.answer; took = did.took; cause = did.cause }

@@ -1,55 +1,76 @@
 -- A program is of the first form exactly if a form is found in its tree.
-use Rattle.std.proofs.Common.{◌≡◌, ◌≢◌, ◌∙◌, ap, sym, subst, ℕ, zero, suc, ◌≤◌, Bool, true, false, not, ◌&&◌, ◌||◌, List, [], ◌∷◌, map, length, codes, Option, Some, None, Contains, arith, refl}
+use Rattle.std.proofs.Common.{◌≡◌, ◌∙◌, ap, sym, subst, ℕ, Bool, true, false, not, ◌&&◌, List, [], ◌∷◌, codes, Option, Some, None, refl}
 use Rattle.std.specs.Str.{bytes_eq}
 use Rattle.std.specs.List.{AllByRecursion}
-use Rattle.std.proofs.lemmas.Slice.Eq.{bytes_eq-Decides}
+use Rattle.std.proofs.lemmas.Bool.{or_parts}
 use Rattle.tw_syntax.specs.Names.{NameTree}
 use Rattle.tw_syntax.specs.Programs.{FunTree, DeclTree, AliasDecl, FunDecl}
+use Rattle.tw_resolve.specs.Declarations.{is_one_of, AreDifferent}
+use Rattle.tw_check.specs.Liveness.{param_names}
 use Rattle.tw_state.specs.States.{Name}
-use Rattle.tw_state.specs.Programs.{Var, And, Binary, Stmt, Skip, Then, Let, Variable, Function}
-use Rattle.tw_state.specs.FromTrees.{stmt_denoted, variable_denoted, variables_denoted, function_denoted}
-use Rattle.tw_lower.specs.Correct.{IsConjunction}
-use Rattle.tower.specs.Form.{Form, is_among, are_different, parameters_of, is_right, boolean, function_of}
-use Rattle.tower.specs.FirstTree.{AreDifferent, IsFirstTree}
-use Rattle.tower.specs.ReadingTree.{is_bool, body_in, parameters_in, is_none, is_main, form_in_main, form_in_fun, form_in}
+use Rattle.tw_state.proofs.Basics.{same_name, name_test}
+use Rattle.tw_lower.specs.Correct.{IsLetAnd, IsConjunction}
+use Rattle.tower.specs.Form.{Form, are_different, parameters_of, is_right}
+use Rattle.tower.specs.FirstTree.{is_bool, IsFirstTree}
+use Rattle.tower.specs.ReadingTree.{body_in, parameters_in, is_none, is_main, form_in_main, form_in_fun, form_in}
 use Rattle.tower.proofs.Binds.{bind_some, some_is}
 use Rattle.tower.proofs.Bools.{and_parts, and_both, found_if, if_found}
-use Rattle.tower.proofs.Conjunctions.{rightness, fresh_from, conjunction}
-use Rattle.tower.proofs.TreesDenoted.{bool-denoted, body-denoted, denoted-body, denoted-variable, parameters-denoted, denoted-parameters, denoted-whole}
+use Rattle.tower.proofs.Reading.{body_let, let_found, parameters_given, parameters_found}
 
-same_bytes : (x y : List ℕ) → bytes_eq x y ≡ true → x ≡ y
-same_bytes x y e = (bytes_eq-Decides x y).0 e
+-- tests of names
 
 bytes_same : (x y : List ℕ) → x ≡ y → bytes_eq x y ≡ true
-bytes_same x y e = (bytes_eq-Decides x y).1 e
+bytes_same x y same = subst (λ (z : List ℕ). bytes_eq x z ≡ true) same (name_test x)
 
 is_unbounded : (bound : Option NameTree) → is_none bound ≡ true → bound ≡ None
 is_unbounded None h = refl
 is_unbounded (Some name) h = cc
 
--- names that are tested to be different are
+not_true : (k : Bool) → not k ≡ true → k ≡ false
+not_true true h = cc
+not_true false h = refl
 
-symmetric : (name : Name) (names : List Name) → AllByRecursion (λ (parameter : Variable). parameter.name ≢ name) (map boolean names) → AllByRecursion (λ (other : Variable). name ≢ other.name) (map boolean names)
-symmetric name [] all = tt
-symmetric name (other ∷ names) all = ((λ same. all.0 (sym same)), symmetric name names all.1)
+each_differs : (name : Name) (names : List Name) → is_one_of name names ≡ false → AllByRecursion (λ other. bytes_eq name other ≡ false) names
+each_differs name [] none = tt
+each_differs name (other ∷ names) none = let parts = or_parts (bytes_eq name other) (is_one_of name names) none in (parts.0, each_differs name names parts.1)
 
-symmetric_too : (name : Name) (names : List Name) → AllByRecursion (λ (other : Variable). name ≢ other.name) (map boolean names) → AllByRecursion (λ (parameter : Variable). parameter.name ≢ name) (map boolean names)
-symmetric_too name [] all = tt
-symmetric_too name (other ∷ names) all = ((λ same. all.0 (sym same)), symmetric_too name names all.1)
+none_differs : (name : Name) (names : List Name) → AllByRecursion (λ other. bytes_eq name other ≡ false) names → is_one_of name names ≡ false
+none_differs name [] all = refl
+none_differs name (other ∷ names) all = rw (all.0, none_differs name names all.1) refl
 
-all_different : (names : List Name) → are_different names ≡ true → AreDifferent (map boolean names)
+all_different : (names : List Name) → are_different names ≡ true → AreDifferent names
 all_different [] h = tt
 all_different (name ∷ names) h =
-    let parts = and_parts (not (is_among name names)) (are_different names) h in
-    (symmetric name names (fresh_from name names parts.0), all_different names parts.1)
+    let parts = and_parts (not (is_one_of name names)) (are_different names) h in
+    (each_differs name names (not_true (is_one_of name names) parts.0), all_different names parts.1)
 
-few : (first : Name) (second : Option Name) → (1 ≤ length (map boolean (parameters_of first second))) × (length (map boolean (parameters_of first second)) ≤ 2)
-few first None = (omega arith, omega arith)
-few first (Some second) = (omega arith, omega arith)
+different_all : (names : List Name) → AreDifferent names → are_different names ≡ true
+different_all [] all = refl
+different_all (name ∷ names) all = rw (none_differs name names all.0, different_all names all.1) refl
+
+-- what the test of a form decides
+record Rightness (form : Form) : Type 0 where
+  pub fresh : is_one_of form.result (parameters_of form.first form.second) ≡ false
+  pub different : are_different (parameters_of form.first form.second) ≡ true
+  pub left_known : is_one_of form.left (parameters_of form.first form.second) ≡ true
+  pub right_known : is_one_of form.right (parameters_of form.first form.second) ≡ true
+
+rightness : (form : Form) → is_right form ≡ true → Rightness form
+unfolding is_right
+rightness form is =
+    let parts = and_parts (are_different (form.result ∷ parameters_of form.first form.second)) _ is in
+    let names = and_parts (not (is_one_of form.result (parameters_of form.first form.second))) _ parts.0 in
+    let operands = and_parts (is_one_of form.left (parameters_of form.first form.second)) _ parts.1 in
+    record { fresh = not_true _ names.0; different = names.1; left_known = operands.0; right_known = operands.1 }
+
+right_form : (form : Form) → Rightness form → is_right form ≡ true
+unfolding is_right
+right_form form is = rw (is.fresh, is.different, is.left_known, is.right_known) refl
 
 -- what is found in `main`
 
-record Found (fun : FunTree) (form : Form) : Type 0 where
+-- the names of a function that returns one `&&`
+pub record Found (fun : FunTree) (form : Form) : Type 0 where
   pub parameters : parameters_in fun.params ≡ Some (form.first, form.second)
   pub body : body_in fun.body ≡ Some (form.result, form.left, form.right)
   pub returned : fun.returned.text ≡ form.result
@@ -60,7 +81,7 @@ found_form : (fun : FunTree) (p : Name × Option Name) (b : Name × Name × Name
 found_form fun p b form e f same g h = record {
   parameters = e ∙ ap (λ (x : Form). Some (x.first, x.second)) same;
   body = f ∙ ap (λ (x : Form). Some (x.result, x.left, x.right)) same;
-  returned = same_bytes _ _ g ∙ ap (λ (x : Form). x.result) same;
+  returned = same_name _ _ g ∙ ap (λ (x : Form). x.result) same;
   right = h;
 }
 
@@ -81,115 +102,83 @@ main_found fun form found =
     rw (found.parameters, found.body)
     (if_found (bytes_eq fun.returned.text form.result && is_right form) (Some form) form (and_both _ _ (bytes_same _ _ found.returned) found.right) refl)
 
--- what is found is the form of the function that the tree denotes
+-- the form and the function of a program of the first form
+pub record Reads (tree : List DeclTree) (form : Form) : Type 0 where
+  pub fun : FunTree
+  pub first : IsFirstTree (record { decls = tree }) fun
+  pub names : param_names fun ≡ parameters_of form.first form.second
+  pub conjunction : IsConjunction fun form.left form.right
 
-whole : (fun : FunTree) (form : Form) → variables_denoted fun.params ≡ Some (map boolean (parameters_of form.first form.second)) → variable_denoted fun.returned fun.result ≡ Some (boolean form.result) →
-    stmt_denoted fun.body ≡ Some (Then (Let form.result (Binary And (Var form.left) (Var form.right))) Skip) → function_denoted fun ≡ Some (function_of form)
-whole fun form e f g = rw (e, f, g) refl
-
-result-denoted : (fun : FunTree) (name : Name) → is_bool fun.result ≡ true → fun.returned.text ≡ name → variable_denoted fun.returned fun.result ≡ Some (boolean name)
-result-denoted fun name h same = rw (bool-denoted fun.result h) (ap (λ (n : Name). Some (boolean n)) same)
-
-first_of : (tree : List DeclTree) (fun : FunTree) (form : Form) → is_main fun ≡ true → Found fun form → IsFirstTree (record { decls = FunDecl fun ∷ [] }) (function_of form)
-first_of tree fun form main found =
+reads_main : (fun : FunTree) (form : Form) → is_main fun ≡ true → Found fun form → Reads (FunDecl fun ∷ []) form
+reads_main fun form main found =
     let parts = and_parts (bytes_eq fun.name.text (codes "main")) _ main in
     let rest = and_parts (is_none fun.bound) (is_bool fun.result) parts.1 in
-    let right = rightness form found.right in
+    let is = rightness form found.right in
+    let given = parameters_given fun.params form.first form.second found.parameters in
+    let among : (name : Name) (one : Bool) → is_one_of name (parameters_of form.first form.second) ≡ one → is_one_of name (param_names fun) ≡ one = λ name one. subst (λ (names : List Name). is_one_of name names ≡ one) (sym given.names) in
+    let one : IsConjunction fun form.left form.right = record {
+      body = subst (λ (out : Name). IsLetAnd fun.body out form.left form.right) (sym found.returned) (body_let fun.body (form.result, form.left, form.right) found.body);
+      fresh = among fun.returned.text false (subst (λ (out : Name). is_one_of out (parameters_of form.first form.second) ≡ false) (sym found.returned) is.fresh);
+      left_known = among form.left true is.left_known;
+      right_known = among form.right true is.right_known;
+    } in
     record {
       fun = fun;
-      alone = refl;
-      main = same_bytes _ _ parts.0;
-      unbounded = is_unbounded fun.bound rest.0;
-      denoted = whole fun form (parameters-denoted fun.params form.first form.second found.parameters) (result-denoted fun form.result rest.1 found.returned) (body-denoted fun.body (form.result, form.left, form.right) found.body);
-      one_or_two = few form.first form.second;
-      different = all_different (parameters_of form.first form.second) right.different;
-      left = form.left;
-      right = form.right;
-      conjunction = conjunction form found.right;
+      first = record {
+        alone = refl;
+        main = same_name _ _ parts.0;
+        unbounded = is_unbounded fun.bound rest.0;
+        one_or_two = (given.some, given.few);
+        parameters = given.bools;
+        result = rest.1;
+        different = subst AreDifferent (sym given.names) (all_different _ is.different);
+        left = form.left;
+        right = form.right;
+        conjunction = one;
+      };
+      names = given.names;
+      conjunction = one;
     }
 
--- the form that is found in a program is well-formed, and is that of a program of the first form
-pub form-sound : (decls : List DeclTree) (form : Form) → form_in decls ≡ Some form → IsFirstTree (record { decls = decls }) (function_of form) × (is_right form ≡ true)
+-- a program in which a form is found is of the first form
+pub form-sound : (decls : List DeclTree) (form : Form) → form_in decls ≡ Some form → Reads decls form
 form-sound (FunDecl fun ∷ []) form h =
     let test = found_if (is_main fun) (form_in_main fun) form h in
-    let found = found_in_main fun form test.1 in
-    (first_of [] fun form test.0 found, found.right)
+    reads_main fun form test.0 (found_in_main fun form test.1)
 form-sound (AliasDecl alias ∷ []) form h = cc
 form-sound [] form h = cc
 form-sound (decl ∷ other ∷ decls) form h = cc
 
--- names that are different are tested to be
-
-or_later : (k l : Bool) → l ≡ true → (k || l) ≡ true
-or_later true l h = refl
-or_later false l h = h
-
-among_from : (name : Name) (names : List Name) → Contains (map (λ parameter. parameter.name) (map boolean names)) name → is_among name names ≡ true
-among_from name [] (k, within, same) = absurd (omega (arith, within))
-among_from name (other ∷ names) (zero, within, same) = rw (bytes_same name other (sym same)) refl
-among_from name (other ∷ names) (suc k, within, same) = or_later (bytes_eq name other) (is_among name names) (among_from name names (k, omega (arith, within), same))
-
-not_among : (name : Name) (names : List Name) → AllByRecursion (λ (parameter : Variable). parameter.name ≢ name) (map boolean names) → not (is_among name names) ≡ true
-not_among name [] all = refl
-not_among name (other ∷ names) all = by_test (bytes_eq name other) refl (not_among name names all.1)
-  where
-    by_test : (k : Bool) → bytes_eq name other ≡ k → not (is_among name names) ≡ true → not (k || is_among name names) ≡ true
-    by_test true e later = absurd (all.0 (sym (same_bytes name other e)))
-    by_test false e later = later
-
-different_all : (names : List Name) → AreDifferent (map boolean names) → are_different names ≡ true
-different_all [] all = refl
-different_all (name ∷ names) all = and_both _ _ (not_among name names (symmetric_too name names all.0)) (different_all names all.1)
-
--- the names of a program of the first form are well-formed
-right_form : (form : Form) → AreDifferent (map boolean (parameters_of form.first form.second)) → IsConjunction (function_of form) form.left form.right → is_right form ≡ true
-unfolding is_right
-right_form form different is =
-    let names = parameters_of form.first form.second in
-    and_both (are_different (form.result ∷ names)) (is_among form.left names && is_among form.right names)
-    (and_both (not (is_among form.result names)) (are_different names) (not_among form.result names is.fresh) (different_all names different))
-    (and_both (is_among form.left names) (is_among form.right names) (among_from form.left names is.left_known) (among_from form.right names is.right_known))
-
 main_tested : (fun : FunTree) → fun.name.text ≡ codes "main" → fun.bound ≡ None → is_bool fun.result ≡ true → is_main fun ≡ true
 main_tested fun e f g = rw (bytes_same fun.name.text (codes "main") e, f, g) refl
 
-same_function : (f g : Function) → f.parameters ≡ g.parameters → f.result ≡ g.result → f.body ≡ g.body → f ≡ g
-same_function f g a b c =
-    ap (λ (ps : List Variable). record { parameters = ps; result = f.result; body = f.body }) a
-    ∙ (ap (λ (r : Variable). record { parameters = g.parameters; result = r; body = f.body }) b
-    ∙ ap (λ (s : Stmt). record { parameters = g.parameters; result = g.result; body = s }) c)
-
-the_body : (result name left right : Name) → result ≡ name → Then (Let result (Binary And (Var left) (Var right))) Skip ≡ Then (Let name (Binary And (Var left) (Var right))) Skip
-the_body result name left right e = cc
-
--- what is found in the function of the first form
-complete_fun : (fun : FunTree) (function : Function) (left right : Name) → fun.name.text ≡ codes "main" → fun.bound ≡ None → function_denoted fun ≡ Some function → 1 ≤ length function.parameters → length function.parameters ≤ 2 →
-    AreDifferent function.parameters → IsConjunction function left right → (form : Form) × (form_in_fun fun ≡ Some form)
-complete_fun fun function left right main unbounded denoted some few different is =
-    let parts = denoted-whole fun function denoted in
-    let names = denoted-parameters fun.params function.parameters parts.parameters some few in
-    let result = denoted-variable fun.returned fun.result function.result parts.result in
-    let form : Form = record { first = names.first; second = names.second; result = fun.returned.text; left = left; right = right } in
-    let body = is.body ∙ the_body function.result.name fun.returned.text left right (ap (λ (v : Variable). v.name) result.1) in
-    let same : function ≡ function_of form = same_function function (function_of form) names.same result.1 body in
-    let conjunct = subst (λ (f : Function). IsConjunction f left right) same is in
-    let apart = subst (λ (f : Function). AreDifferent f.parameters) same different in
-    let found : Found fun form = record {
-      parameters = names.found;
-      body = denoted-body fun.body (fun.returned.text, left, right) (parts.body ∙ ap Some body);
-      returned = refl;
-      right = right_form form apart conjunct;
+-- a form is found in the function of a program of the first form
+form_of_fun : (decls : List DeclTree) (fun : FunTree) → IsFirstTree (record { decls = decls }) fun → (form : Form) × (form_in_fun fun ≡ Some form)
+form_of_fun decls fun first =
+    let given = parameters_found fun.params first.parameters first.one_or_two.0 first.one_or_two.1 in
+    let form : Form = record { first = given.first; second = given.second; result = fun.returned.text; left = first.left; right = first.right } in
+    let one = first.conjunction in
+    let among : (name : Name) (test : Bool) → is_one_of name (param_names fun) ≡ test → is_one_of name (parameters_of given.first given.second) ≡ test = λ name test. subst (λ (names : List Name). is_one_of name names ≡ test) given.names in
+    let is : Rightness form = record {
+      fresh = among fun.returned.text false one.fresh;
+      different = different_all _ (subst AreDifferent given.names first.different);
+      left_known = among first.left true one.left_known;
+      right_known = among first.right true one.right_known;
     } in
-    (form, if_found (is_main fun) (form_in_main fun) form (main_tested fun main unbounded result.0) (main_found fun form found))
+    let found : Found fun form = record {
+      parameters = given.found;
+      body = let_found fun.body fun.returned.text first.left first.right one.body;
+      returned = refl;
+      right = right_form form is;
+    } in
+    (form, if_found (is_main fun) (form_in_main fun) form (main_tested fun first.main first.unbounded first.result) (main_found fun form found))
 
--- a program of the first form has a form, which is found
-pub form-complete : (decls : List DeclTree) (function : Function) → IsFirstTree (record { decls = decls }) function → (form : Form) × (form_in decls ≡ Some form)
-form-complete decls function first =
-    rw first.alone (complete_fun first.fun function first.left first.right first.main first.unbounded first.denoted first.one_or_two.0 first.one_or_two.1 first.different first.conjunction)
+form-complete : (decls : List DeclTree) (fun : FunTree) → IsFirstTree (record { decls = decls }) fun → (form : Form) × (form_in decls ≡ Some form)
+form-complete decls fun first = let found = form_of_fun decls fun first in (found.0, ap form_in first.alone ∙ found.1)
 
 none_found : {A : Type 0} (found : Option A) (x : A) → found ≡ None → found ≡ Some x → ⊥
 none_found found x e f = let h = sym e ∙ f in cc
 
 -- a program in which no form is found is not of the first form
-pub no_form-complete : (decls : List DeclTree) → form_in decls ≡ None → (function : Function) → IsFirstTree (record { decls = decls }) function → ⊥
-no_form-complete decls none function first = let found = form-complete decls function first in none_found (form_in decls) found.0 none found.1
+pub no_form-complete : (decls : List DeclTree) → form_in decls ≡ None → (fun : FunTree) → IsFirstTree (record { decls = decls }) fun → ⊥
+no_form-complete decls none fun first = let found = form-complete decls fun first in none_found (form_in decls) found.0 none found.1

@@ -1,13 +1,15 @@
 -- Arguments and an input have at most one answer.
-use Rattle.std.proofs.Common.{◌≡◌, ◌∙◌, ap, sym, subst, ℕ, ◌<◌, ◌≤◌, Bool, List, [], ◌∷◌, ◌++◌, length, map, codes, arith}
+use Rattle.std.proofs.Common.{◌≡◌, ◌∙◌, ap, sym, subst, ℕ, ◌<◌, ◌≤◌, Bool, true, List, [], ◌∷◌, ◌++◌, length, map, codes, Some, arith}
 use Rattle.tw_text.specs.declared.refusal.Refusal.{Refusal}
 use Rattle.tw_text.specs.declared.diagnostic.Diagnostic.{Diagnostic}
 use Rattle.tw_text.specs.declared.diagnostic.Diagnostic.TheVariants as diagnostic
 use Rattle.tw_text.specs.declared.limits.TheConstants.{INPUT_LIMIT}
 use Rattle.tw_syntax.specs.Programs.{FunTree, FunDecl, ProgramTree}
+use Rattle.tw_parse.specs.Sources.{IsSource}
 use Rattle.tw_parse.proofs.Sources as sources
-use Rattle.tw_types.specs.Types.{Widths}
-use Rattle.tw_resolve.specs.Programs.{IsWellTyped, IsRefused}
+use Rattle.tw_types.specs.Types.{Widths, AreInRange}
+use Rattle.tw_resolve.specs.Expressions.{Types}
+use Rattle.tw_resolve.specs.Programs.{IsTyped, IsWellTyped, IsRefused, setting_of}
 use Rattle.tw_resolve.proofs.Refusals.{one_refusal, typed_not_refused}
 use Rattle.tw_check.proofs.RightDecls.{right_exactly_if_none_broken}
 use Rattle.std.proofs.Math.Logic.{∥∥₁_elim}
@@ -19,11 +21,10 @@ use Rattle.tw_gatetext.proofs.Bounds.{file_text-prefix_free}
 use Rattle.tw_gatetext.proofs.Refusals as gates
 use Rattle.tw_sim.specs.BitLines.{bit_lines, AreLinesOf}
 use Rattle.tw_sim.proofs.Laws.{right_not_refused, one_reason, bit_lines-injective}
-use Rattle.tw_state.specs.Programs.{Function}
-use Rattle.tw_state.specs.FromTrees.{function_denoted}
+use Rattle.tw_state.proofs.TargetTexts.{HasPlainAliases}
 use Rattle.tower.specs.declared.ending.Unanswered.TheVariants as unanswered
 use Rattle.tower.specs.Ending.{of_gates, of_lines}
-use Rattle.tower.specs.Requests.{Request, Format, Check, Compile, Simulate, Invert, FileRequest}
+use Rattle.tower.specs.Requests.{Request, Format, Check, Compile, Run, Simulate, Invert, FileRequest, Asks}
 use Rattle.tower.specs.Outcomes.{Outcome, Prints, Refuses}
 use Rattle.tower.specs.Sources.{SourceAnswer, OnTree, NoProgram}
 use Rattle.tower.specs.GateInputs.{GatesAnswer, OnPrefix, WrongLine, PastLimit}
@@ -33,13 +34,20 @@ use Rattle.tower.specs.Check.{CheckAnswer, Accepted, Broken}
 use Rattle.tower.specs.Format.{FormatAnswer}
 use Rattle.tower.specs.Compile as compile
 use Rattle.tower.specs.Compile.{CompileAnswer, BadEntry, Built, NotBuilt, file_of}
+use Rattle.tower.specs.Marks.{parted}
+use Rattle.tower.specs.Run as run
+use Rattle.tower.specs.Run.{RunAnswer, OnEntry}
 use Rattle.tower.specs.Invert as invert
 use Rattle.tower.specs.Invert.{InvertAnswer, inverse_file}
 use Rattle.tower.specs.Simulate as simulate
 use Rattle.tower.specs.Simulate.{HasLines, LinesAnswer, OnStates, SimulateAnswer, OfLevelT, OnLines, OtherLine}
 use Rattle.tower.specs.Answer.{InputAnswer, Answer, OnInput, TooLong, Usage}
 use Rattle.tower.proofs.Binds.{some_is}
+use Rattle.tower.proofs.Conjunctions.{one_table_of}
 use Rattle.tower.proofs.OneRequest.{one_request}
+use Rattle.tower.proofs.OneRun.{one_by_entry}
+use Rattle.tower.proofs.PlainSources.{plain_source}
+use Rattle.tower.proofs.Ranges.{run_in_range}
 
 same_why : (why other : Diagnostic) → unanswered.Refused why ≡ unanswered.Refused other → why ≡ other
 same_why why other e = cc
@@ -53,9 +61,15 @@ by_reason a e b = a ∙ ap Refuses (same_why _ _ e) ∙ sym b
 one_fun : (f g : FunTree) → FunDecl f ∷ [] ≡ FunDecl g ∷ [] → f ≡ g
 one_fun f g e = cc
 
-one_function : (tree : ProgramTree) (function other : Function) → IsFirstTree tree function → IsFirstTree tree other → function ≡ other
-one_function tree function other x y =
-    some_is _ _ (sym x.denoted ∙ ap function_denoted (one_fun x.fun y.fun (sym x.alone ∙ y.alone)) ∙ y.denoted)
+-- two files that the program defines are equal
+one_defined : (widths : Widths) (inverse : Bool) (tree : ProgramTree) (types other : Types) (f g : FunTree) (file last : File) → ∥ IsTyped widths tree types ∥₁ → ∥ IsTyped widths tree other ∥₁ → IsFirstTree tree f → IsFirstTree tree g →
+    file_of (setting_of widths tree types) inverse f ≡ Some file → file_of (setting_of widths tree other) inverse g ≡ Some last → file ≡ last
+one_defined widths inverse tree types other f g file last t u x y d e =
+    some_is _ _
+    (sym d
+    ∙ ap (λ (found : Types). file_of (setting_of widths tree found) inverse f) (one_table_of widths tree types other t u)
+    ∙ ap (file_of (setting_of widths tree other) inverse) (one_fun f g (sym x.alone ∙ y.alone))
+    ∙ e)
 
 one_format : (tree : ProgramTree) (outcome other : Outcome) → FormatAnswer tree outcome → FormatAnswer tree other → outcome ≡ other
 one_format tree outcome other x y = x ∙ sym y
@@ -92,24 +106,36 @@ ready_or_bad request tree refusal ready bad = let none = ready.entry in let some
 one_compile : (request : FileRequest) (tree : ProgramTree) (outcome other : Outcome) → CompileAnswer request tree outcome → CompileAnswer request tree other → outcome ≡ other
 one_compile request tree outcome other (compile.Broken refusal x a) (compile.Broken refusal' y b) = a ∙ ap refused_as (one_first request.widths tree refusal refusal' x y) ∙ sym b
 one_compile request tree outcome other (compile.Broken refusal x a) (BadEntry refusal' y b) = absurd (accepted_or_broken request.widths tree refusal y.accepted x)
-one_compile request tree outcome other (compile.Broken refusal x a) (Built g y is b) = absurd (accepted_or_broken request.widths tree refusal y.accepted x)
+one_compile request tree outcome other (compile.Broken refusal x a) (Built types g file y t is d b) = absurd (accepted_or_broken request.widths tree refusal y.accepted x)
 one_compile request tree outcome other (compile.Broken refusal x a) (NotBuilt y none b) = absurd (accepted_or_broken request.widths tree refusal y.accepted x)
 one_compile request tree outcome other (BadEntry refusal x a) (compile.Broken refusal' y b) = absurd (accepted_or_broken request.widths tree refusal' x.accepted y)
 one_compile request tree outcome other (BadEntry refusal x a) (BadEntry refusal' y b) = a ∙ ap refused_as (some_is refusal refusal' (sym x.broken ∙ y.broken)) ∙ sym b
-one_compile request tree outcome other (BadEntry refusal x a) (Built g y is b) = absurd (ready_or_bad request tree refusal y x)
+one_compile request tree outcome other (BadEntry refusal x a) (Built types g file y t is d b) = absurd (ready_or_bad request tree refusal y x)
 one_compile request tree outcome other (BadEntry refusal x a) (NotBuilt y none b) = absurd (ready_or_bad request tree refusal y x)
-one_compile request tree outcome other (Built f x is a) (compile.Broken refusal y b) = absurd (accepted_or_broken request.widths tree refusal x.accepted y)
-one_compile request tree outcome other (Built f x is a) (BadEntry refusal y b) = absurd (ready_or_bad request tree refusal x y)
-one_compile request tree outcome other (Built f x is a) (Built g y is' b) = a ∙ ap (λ (h : Function). Prints (file_text (file_of request.widths request.inverse h))) (one_function tree f g is is') ∙ sym b
-one_compile request tree outcome other (Built f x is a) (NotBuilt y none b) = absurd (none f is)
+one_compile request tree outcome other (Built types f file x t is d a) (compile.Broken refusal y b) = absurd (accepted_or_broken request.widths tree refusal x.accepted y)
+one_compile request tree outcome other (Built types f file x t is d a) (BadEntry refusal y b) = absurd (ready_or_bad request tree refusal x y)
+one_compile request tree outcome other (Built types f file x t is d a) (Built types' g last y t' is' d' b) =
+    a ∙ ap (λ (found : File). Prints (file_text found)) (one_defined request.widths request.inverse tree types types' f g file last t t' is is' d d') ∙ sym b
+one_compile request tree outcome other (Built types f file x t is d a) (NotBuilt y none b) = absurd (none f is)
 one_compile request tree outcome other (NotBuilt x none a) (compile.Broken refusal y b) = absurd (accepted_or_broken request.widths tree refusal x.accepted y)
 one_compile request tree outcome other (NotBuilt x none a) (BadEntry refusal y b) = absurd (ready_or_bad request tree refusal x y)
-one_compile request tree outcome other (NotBuilt x none a) (Built g y is b) = absurd (none g is)
+one_compile request tree outcome other (NotBuilt x none a) (Built types g file y t is d b) = absurd (none g is)
 one_compile request tree outcome other (NotBuilt x none a) (NotBuilt y none' b) = a ∙ sym b
 
-one_source : (bytes : List ℕ) (OnProgram : ProgramTree → Outcome → Type 0) (outcome other : Outcome) → ((tree : ProgramTree) → OnProgram tree outcome → OnProgram tree other → outcome ≡ other) →
+one_run : (request : FileRequest) (lines : List ℕ) (tree : ProgramTree) → AreInRange request.widths → HasPlainAliases tree → (outcome other : Outcome) → RunAnswer request lines tree outcome → RunAnswer request lines tree other → outcome ≡ other
+one_run request lines tree range plain outcome other (run.Broken refusal x a) (run.Broken refusal' y b) = a ∙ ap refused_as (one_first request.widths tree refusal refusal' x y) ∙ sym b
+one_run request lines tree range plain outcome other (run.Broken refusal x a) (run.BadEntry refusal' y b) = absurd (accepted_or_broken request.widths tree refusal y.accepted x)
+one_run request lines tree range plain outcome other (run.Broken refusal x a) (OnEntry found is) = absurd (accepted_or_broken request.widths tree refusal found.ready.accepted x)
+one_run request lines tree range plain outcome other (run.BadEntry refusal x a) (run.Broken refusal' y b) = absurd (accepted_or_broken request.widths tree refusal' x.accepted y)
+one_run request lines tree range plain outcome other (run.BadEntry refusal x a) (run.BadEntry refusal' y b) = a ∙ ap refused_as (some_is refusal refusal' (sym x.broken ∙ y.broken)) ∙ sym b
+one_run request lines tree range plain outcome other (run.BadEntry refusal x a) (OnEntry found is) = absurd (ready_or_bad request tree refusal found.ready x)
+one_run request lines tree range plain outcome other (OnEntry found is) (run.Broken refusal y b) = absurd (accepted_or_broken request.widths tree refusal found.ready.accepted y)
+one_run request lines tree range plain outcome other (OnEntry found is) (run.BadEntry refusal y b) = absurd (ready_or_bad request tree refusal found.ready y)
+one_run request lines tree range plain outcome other (OnEntry found is) (OnEntry found' is') = one_by_entry request tree found found' range plain lines outcome other is is'
+
+one_source : (bytes : List ℕ) (OnProgram : ProgramTree → Outcome → Type 0) (outcome other : Outcome) → ((tree : ProgramTree) → IsSource bytes tree → OnProgram tree outcome → OnProgram tree other → outcome ≡ other) →
     SourceAnswer bytes OnProgram outcome → SourceAnswer bytes OnProgram other → outcome ≡ other
-one_source bytes OnProgram outcome other one (OnTree tree x a) (OnTree tree' y b) = one tree' (subst (λ (t : ProgramTree). OnProgram t outcome) (sources.one_source bytes tree' tree y x) a) b
+one_source bytes OnProgram outcome other one (OnTree tree x a) (OnTree tree' y b) = one tree' y (subst (λ (t : ProgramTree). OnProgram t outcome) (sources.one_source bytes tree' tree y x) a) b
 one_source bytes OnProgram outcome other one (OnTree tree x a) (NoProgram refusal y b) = absurd (sources.apart bytes tree refusal x y)
 one_source bytes OnProgram outcome other one (NoProgram refusal x a) (OnTree tree y b) = absurd (sources.apart bytes tree refusal y x)
 one_source bytes OnProgram outcome other one (NoProgram refusal x a) (NoProgram refusal' y b) =
@@ -190,19 +216,22 @@ one_simulate file rest outcome other (OtherLine e none a) (OtherLine f none' b) 
 
 -- all requests
 
-one_input : (request : Request) (bytes : List ℕ) (outcome other : Outcome) → InputAnswer request bytes outcome → InputAnswer request bytes other → outcome ≡ other
-one_input Format bytes outcome other x y = one_source bytes FormatAnswer outcome other (λ tree. one_format tree outcome other) x y
-one_input (Check widths) bytes outcome other x y = one_source bytes (CheckAnswer widths) outcome other (λ tree. one_check widths tree outcome other) x y
-one_input (Compile file) bytes outcome other x y = one_source bytes (CompileAnswer file) outcome other (λ tree. one_compile file tree outcome other) x y
-one_input Simulate bytes outcome other x y = one_gates bytes SimulateAnswer outcome other (λ file rest. one_simulate file rest outcome other) x y
-one_input Invert bytes outcome other x y = one_gates bytes InvertAnswer outcome other (λ file rest. one_invert file rest outcome other) x y
+one_input : (words : List (List ℕ)) (request : Request) → Asks words request → (bytes : List ℕ) (outcome other : Outcome) → InputAnswer request bytes outcome → InputAnswer request bytes other → outcome ≡ other
+one_input words Format asks bytes outcome other x y = one_source bytes FormatAnswer outcome other (λ tree source. one_format tree outcome other) x y
+one_input words (Check widths) asks bytes outcome other x y = one_source bytes (CheckAnswer widths) outcome other (λ tree source. one_check widths tree outcome other) x y
+one_input words (Compile file) asks bytes outcome other x y = one_source bytes (CompileAnswer file) outcome other (λ tree source. one_compile file tree outcome other) x y
+one_input words (Run file) asks bytes outcome other x y =
+    one_source (parted true bytes).0 (RunAnswer file (parted true bytes).1) outcome other
+    (λ tree source. one_run file (parted true bytes).1 tree (run_in_range words file asks) (plain_source (parted true bytes).0 tree source) outcome other) x y
+one_input words Simulate asks bytes outcome other x y = one_gates bytes SimulateAnswer outcome other (λ file rest. one_simulate file rest outcome other) x y
+one_input words Invert asks bytes outcome other x y = one_gates bytes InvertAnswer outcome other (λ file rest. one_invert file rest outcome other) x y
 
 few_or_many : (bytes : List ℕ) → length bytes ≤ INPUT_LIMIT → INPUT_LIMIT < length bytes → ⊥
 few_or_many bytes few many = omega (arith, few, many)
 
 pub one_answer : (words : List (List ℕ)) (bytes : List ℕ) (outcome other : Outcome) → Answer words bytes outcome → Answer words bytes other → outcome ≡ other
 one_answer words bytes outcome other (OnInput request x few a) (OnInput request' y few' b) =
-    one_input request' bytes outcome other (subst (λ (r : Request). InputAnswer r bytes outcome) (one_request words request request' x y) a) b
+    one_input words request' y bytes outcome other (subst (λ (r : Request). InputAnswer r bytes outcome) (one_request words request request' x y) a) b
 one_answer words bytes outcome other (OnInput request x few a) (TooLong request' y many b) = absurd (few_or_many bytes few many)
 one_answer words bytes outcome other (TooLong request x many a) (OnInput request' y few b) = absurd (few_or_many bytes few many)
 one_answer words bytes outcome other (TooLong request x many a) (TooLong request' y many' b) = a ∙ sym b

@@ -1,8 +1,11 @@
 -- What was printed has the properties that `tower_main` promises.
-use Rattle.std.proofs.Common.{◌≡◌, ◌≢◌, ◌∙◌, ◌≤◌, ap, sym, subst, ℕ, ◌⊎◌, inl, inr, List, Option, IfSome}
+use Rattle.std.proofs.Common.{◌≡◌, ◌≢◌, ◌∙◌, ◌≤◌, ap, sym, subst, ℕ, ◌⊎◌, inl, inr, List, length, Option, IfSome, refl}
 use Rattle.tw_io.specs.Devices.{Appends}
 use Rattle.tw_text.specs.declared.diagnostic.Diagnostic.{Diagnostic}
-use Rattle.tw_syntax.specs.Programs.{ProgramTree}
+use Rattle.std.proofs.lemmas.List.{length-map}
+use Rattle.tw_syntax.specs.Programs.{FunTree, ProgramTree}
+use Rattle.tw_resolve.specs.Programs.{setting_of}
+use Rattle.tw_check.specs.Liveness.{param_names}
 use Rattle.tw_parse.specs.Sources.{IsSource}
 use Rattle.tw_print.proofs.ReadBack.{reads_back}
 use Rattle.tw_gate.specs.declared.gate.Level.TheVariants as levels
@@ -13,24 +16,27 @@ use Rattle.tw_gatetext.specs.Files.{BeginsWith}
 use Rattle.tw_gatetext.proofs.ValidFiles.{valid-inverse, classical, permutes-file}
 use Rattle.tower.specs.declared.status.Status.{Status}
 use Rattle.tower.specs.declared.status.Status.TheVariants as status
-use Rattle.tower.specs.Requests.{FileRequest, Request, Format, Check, Compile, Simulate, Invert, Asks}
-use Rattle.tower.specs.Outcomes.{Outcome, Prints, Refuses, outcome_status, outcome_text}
+use Rattle.tower.specs.Requests.{FileRequest, Request, Format, Check, Compile, Run, Simulate, Invert, Asks}
+use Rattle.tower.specs.Outcomes.{Outcome, Prints, PrintsStuck, Refuses, outcome_status, outcome_text}
 use Rattle.tower.specs.Sources.{SourceAnswer, OnTree, NoProgram}
 use Rattle.tower.specs.GateInputs.{GatesAnswer, OnPrefix, WrongLine, PastLimit}
 use Rattle.tw_types.specs.Types.{Widths}
 use Rattle.tower.specs.Check.{CheckAnswer, Accepted, Broken, Checked}
 use Rattle.tower.specs.Format.{FormatAnswer, Formatted}
 use Rattle.tower.specs.Compile as compile
-use Rattle.tower.specs.Compile.{CompileAnswer, BadEntry, Built, NotBuilt, Compiled, file_of}
+use Rattle.tower.specs.Compile.{CompileAnswer, BadEntry, Built, NotBuilt, Compiled}
+use Rattle.tower.specs.FirstTree.{IsFirstTree}
+use Rattle.tower.specs.Run.{Ran}
 use Rattle.tower.specs.Invert as invert
 use Rattle.tower.specs.Invert.{InvertAnswer, Inverted, inverse_file}
 use Rattle.tower.specs.Simulate as simulate
 use Rattle.tower.specs.Simulate.{HasLines, LinesAnswer, OnStates, SimulateAnswer, OfLevelT, OnLines, OtherLine, Simulated}
 use Rattle.tower.specs.Answer.{InputAnswer, Answer, OnInput, TooLong, Usage, GaveWhole, Answered, IsCutShort}
 use Rattle.tower.proofs.Compiles.{compiled}
-use Rattle.tower.proofs.TypesDenoted.{denoted-booleans}
+use Rattle.tower.proofs.Conjunctions.{entry_is, no_bound, plain}
 use Rattle.tower.proofs.OneRequest.{one_request}
 use Rattle.tower.proofs.Ranges.{widths_in_range}
+use Rattle.tower.proofs.PrintedRuns.{runs}
 use Rattle.tower.proofs.WhenEnded.{if_told, told_answer, refusal_not_ok}
 
 text_is : (text other : List ℕ) → Prints text ≡ Prints other → text ≡ other
@@ -38,6 +44,9 @@ text_is text other e = cc
 
 no_text : (text : List ℕ) (why : Diagnostic) → Prints text ≡ Refuses why → ⊥
 no_text text why e = cc
+
+few_names : (fun : FunTree) {tree : ProgramTree} → IsFirstTree tree fun → length (param_names fun) ≤ 2
+few_names fun first = subst (λ (n : ℕ). n ≤ 2) (sym (length-map fun.params (λ param. param.name.text))) first.one_or_two.1
 
 module _ (bytes text : List ℕ) (before now : Option (List ℕ)) (took : Appends before now text) where
   formats : SourceAnswer bytes FormatAnswer (Prints text) → Formatted bytes before now
@@ -53,16 +62,22 @@ module _ (bytes text : List ℕ) (before now : Option (List ℕ)) (took : Append
   checks widths (NoProgram refusal refused e) = absurd (no_text text _ e)
 
   compiles_tree : (request : FileRequest) → request.widths.addr ≤ 8 → (tree : ProgramTree) → IsSource bytes tree → CompileAnswer request tree (Prints text) → Compiled request bytes before now
-  compiles_tree request narrow tree source (Built function ready first e) = record {
-    tree = tree;
-    source = source;
-    ready = ready;
-    function = function;
-    first = first;
-    file = file_of request.widths request.inverse function;
-    printed = subst (Appends before now) (text_is text _ e) took;
-    compiled = compiled request first.conjunction (denoted-booleans first.fun function first.denoted) first.one_or_two.1 narrow;
-  }
+  compiles_tree request narrow tree source (Built types fun file ready typed first defined e) =
+      let entry = entry_is request tree ready fun first types in
+      let all_bits = plain request.widths tree types typed ready.accepted.right fun first request.entry entry in
+      record {
+        tree = tree;
+        source = source;
+        ready = ready;
+        types = types;
+        typed = typed;
+        fun = fun;
+        entry = entry;
+        first = first;
+        file = file;
+        printed = subst (Appends before now) (text_is text _ e) took;
+        compiled = compiled request (setting_of request.widths tree types) first.conjunction all_bits (no_bound request tree ready fun first) narrow (few_names fun first) file defined;
+      }
   compiles_tree request narrow tree source (NotBuilt ready none e) = absurd (no_text text _ e)
   compiles_tree request narrow tree source (compile.Broken refusal broken e) = absurd (no_text text _ e)
   compiles_tree request narrow tree source (BadEntry refusal bad e) = absurd (no_text text _ e)
@@ -124,6 +139,7 @@ abbrev pub Promise : Request → Option (List ℕ) → Option (List ℕ) → Lis
 Promise Format before now bytes = Formatted bytes before now
 Promise (Check widths) before now bytes = Checked widths bytes before now
 Promise (Compile request) before now bytes = Compiled request bytes before now
+Promise (Run request) before now bytes = Ran request bytes before now
 Promise Simulate before now bytes = Simulated bytes before now
 Promise Invert before now bytes = Inverted bytes before now
 
@@ -131,6 +147,7 @@ kept : (request : Request) (words : List (List ℕ)) (bytes text : List ℕ) (be
 kept Format words bytes text before now asks took is = formats bytes text before now took is
 kept (Check widths) words bytes text before now asks took is = checks bytes text before now took widths is
 kept (Compile request) words bytes text before now asks took is = compiles bytes text before now took request (widths_in_range words request asks).addr_to is
+kept (Run request) words bytes text before now asks took is = runs bytes text before now took request (Prints text) refl (no_text text) is
 kept Simulate words bytes text before now asks took is = simulates bytes text before now took is
 kept Invert words bytes text before now asks took is = inverts bytes text before now took is
 
@@ -140,6 +157,7 @@ promised request left before now words ended answered asks ok = if_told left by_
   where
     by_outcome : (bytes : List ℕ) (outcome : Outcome) → Answer words bytes outcome → outcome_status outcome ≡ status.Ok → Appends before now (outcome_text outcome) → Promise request before now bytes
     by_outcome bytes (Prints text) answer same took = kept request words bytes text before now asks took (asked_answer words bytes text request asks answer)
+    by_outcome bytes (PrintsStuck text) answer same took = cc
     by_outcome bytes (Refuses why) answer same took = absurd (refusal_not_ok why same)
 
     by_cut : (bytes : List ℕ) → IsCutShort ended → Promise request before now bytes

@@ -93,9 +93,9 @@ one_flag false false e = refl
 one_flag true false e = cc
 one_flag false true e = cc
 
-same_settings : (w w' : Option Widths) (e e' : Option (List ℕ)) (b b' : Option ℕ) (i i' : Bool) → w ≡ w' → e ≡ e' → b ≡ b' → i ≡ i' →
-    ◌≡◌ {A = Settings} (record { widths = w; entry = e; bound = b; inverse = i }) (record { widths = w'; entry = e'; bound = b'; inverse = i' })
-same_settings w w' e e' b b' i i' p q r s = cc
+same_settings : (w w' : Option Widths) (e e' : Option (List ℕ)) (b b' : Option ℕ) (i i' k k' : Bool) → w ≡ w' → e ≡ e' → b ≡ b' → i ≡ i' → k ≡ k' →
+    ◌≡◌ {A = Settings} (record { widths = w; entry = e; bound = b; inverse = i; back = k }) (record { widths = w'; entry = e'; bound = b'; inverse = i'; back = k' })
+same_settings w w' e e' b b' i i' k k' p q r s t = cc
 
 -- arguments are the options of at most one settings
 pub one_settings : (words : List (List ℕ)) (settings other : Settings) → AreOptions words settings → AreOptions words other → settings ≡ other
@@ -103,11 +103,12 @@ one_settings words settings other x y = by_rest (continues x.choices y.choices [
   where
     by_values : ((k : Key) → wanted settings k ≡ wanted other k) → settings ≡ other
     by_values same =
-        same_settings _ _ _ _ _ _ _ _
+        same_settings _ _ _ _ _ _ _ _ _ _
         (one_widths settings.widths other.widths x.widths_in_range y.widths_in_range (same key.Word) (same key.Addr))
         (one_entry settings.entry other.entry (same key.Entry))
         (one_number greatest_bound settings.bound other.bound (omega arith) x.bound_in_range y.bound_in_range (same key.Bound))
         (one_flag settings.inverse other.inverse (same key.Inverse))
+        (one_flag settings.back other.back (same key.Back))
 
     by_rest : Continues x.choices y.choices [] → settings ≡ other
     by_rest further = by_list further.more further.spelled further.each
@@ -127,16 +128,17 @@ same_given words values settings given are = by_rest (continues are.choices give
         by_list [] spelled each k = sym (given.each k) ∙ (sym (append-nil (values_of k given.choices)) ∙ (sym (each k) ∙ are.values k))
         by_list (choice ∷ more) spelled each k = absurd (nil_cons _ _ spelled)
 
+flag_once : (flag : Bool) → length {A = List ℕ} (if flag then [] ∷ [] else []) ≤ 1
+flag_once true = omega arith
+flag_once false = omega arith
+
 wanted_once : (settings : Settings) (k : Key) → length (wanted settings k) ≤ 1
 wanted_once settings key.Word = once _
 wanted_once settings key.Addr = once _
 wanted_once settings key.Entry = once _
 wanted_once settings key.Bound = once _
-wanted_once settings key.Inverse = by_flag settings.inverse
-  where
-    by_flag : (inverse : Bool) → length {A = List ℕ} (if inverse then [] ∷ [] else []) ≤ 1
-    by_flag true = omega arith
-    by_flag false = omega arith
+wanted_once settings key.Inverse = flag_once settings.inverse
+wanted_once settings key.Back = flag_once settings.back
 
 -- arguments of which one is no option, or is given twice, make no settings
 pub no_options : (words : List (List ℕ)) → AreNotGiven words → (settings : Settings) → AreOptions words settings → ⊥
@@ -156,8 +158,8 @@ no_bound words values given none settings are = none settings.bound (record { is
 -- options that were read make the settings with their values
 pub are_options : (words : List (List ℕ)) (values : List (Option (Bor (List ℕ)))) (settings : code.Settings) → AreGiven words [] values
     → SetWidths (given_to values key.Word) (given_to values key.Addr) settings.widths → SetNumber greatest_bound (given_to values key.Bound) settings.bound
-    → settings.entry ≡ value_given values key.Entry → settings.inverse ≡ is_some (value_given values key.Inverse) → AreOptions words (settings_seen settings)
-are_options words values settings given widths bound entry inverse = record {
+    → settings.entry ≡ value_given values key.Entry → settings.inverse ≡ is_some (value_given values key.Inverse) → settings.back ≡ is_some (value_given values key.Back) → AreOptions words (settings_seen settings)
+are_options words values settings given widths bound entry inverse back = record {
   choices = given.choices;
   spelled = given.spelled ∙ append-nil _;
   values = λ k. given.each k ∙ each k;
@@ -178,3 +180,4 @@ are_options words values settings given widths bound entry inverse = record {
     each key.Entry = ap value_text (sym entry)
     each key.Bound = bound.is
     each key.Inverse = flag (value_given values key.Inverse) ∙ ap flag_value (sym inverse)
+    each key.Back = flag (value_given values key.Back) ∙ ap flag_value (sym back)

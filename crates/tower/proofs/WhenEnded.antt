@@ -1,16 +1,20 @@
 -- When a call ends with each status.
-use Rattle.std.proofs.Common.{◌≡◌, ◌∙◌, ap, sym, subst, ℕ, ◌⊎◌, inl, inr, Bool, true, false, List, [], Option, Some, None, IfSome, refl}
+use Rattle.std.proofs.Common.{◌≡◌, ◌∙◌, ap, sym, subst, ℕ, ◌⊎◌, inl, inr, Bool, true, false, if◌then◌else◌, List, [], Option, Some, None, IfSome, refl}
 use Rattle.tw_io.specs.Devices.{Appends}
 use Rattle.tw_text.specs.declared.refusal.Rule.{Rule}
 use Rattle.tw_text.specs.declared.refusal.Rule.TheVariants as rule
 use Rattle.tw_text.specs.declared.diagnostic.Diagnostic.{Diagnostic}
 use Rattle.tw_text.specs.declared.diagnostic.Diagnostic.TheVariants as diagnostic
-use Rattle.tw_syntax.specs.Programs.{ProgramTree}
+use Rattle.tw_syntax.specs.Programs.{FunTree, ProgramTree}
+use Rattle.tw_resolve.specs.Setting.{Setting}
+use Rattle.tw_state.specs.declared.state_fault.StateFault.{StateFault}
+use Rattle.tw_state.specs.declared.state_fault.StateFault.TheVariants as state_fault
+use Rattle.tw_frames.specs.declared.measured.Measured.{Measured}
 use Rattle.tw_gatetext.specs.Text.{File}
 use Rattle.tower.specs.declared.status.Status.{Status}
 use Rattle.tower.specs.declared.status.Status.TheVariants as status
-use Rattle.tower.specs.Requests.{FileRequest, Request, Format, Check, Compile, Simulate, Invert, IsUsage}
-use Rattle.tower.specs.Outcomes.{Outcome, Prints, Refuses, rule_status, refusal_status, outcome_status}
+use Rattle.tower.specs.Requests.{FileRequest, Request, Format, Check, Compile, Run, Simulate, Invert, IsUsage}
+use Rattle.tower.specs.Outcomes.{Outcome, Prints, PrintsStuck, Refuses, rule_status, refusal_status, outcome_status}
 use Rattle.tower.specs.Sources.{SourceAnswer, OnTree, NoProgram}
 use Rattle.tower.specs.GateInputs.{GatesAnswer, OnPrefix, WrongLine, PastLimit}
 use Rattle.tw_types.specs.Types.{Widths}
@@ -18,11 +22,15 @@ use Rattle.tower.specs.Check.{CheckAnswer, Accepted, Broken}
 use Rattle.tower.specs.Format.{FormatAnswer}
 use Rattle.tower.specs.Compile as compile
 use Rattle.tower.specs.Compile.{CompileAnswer, BadEntry, Built, NotBuilt}
+use Rattle.tower.specs.Marks.{parted}
+use Rattle.tower.specs.Run as run
+use Rattle.tower.specs.Run.{RunAnswer, EntryAnswer, OnEntry, WrongStates, Replied, state_refusal, is_one_stuck}
 use Rattle.tower.specs.Invert as invert
 use Rattle.tower.specs.Invert.{InvertAnswer}
 use Rattle.tower.specs.Simulate as simulate
 use Rattle.tower.specs.Simulate.{LinesAnswer, OnStates, SimulateAnswer, OfLevelT, OnLines, OtherLine}
 use Rattle.tower.specs.Answer.{InputAnswer, Answer, OnInput, TooLong, Usage, Gave, GaveWhole, Answered, IsComplete, IsCutShort, IsRefusedWith, Cause}
+use Rattle.tower.proofs.Binds.{some_is}
 use Rattle.tower.proofs.OneAnswer.{one_answer}
 
 pub if_told : {A B : List ℕ → Type 0} → (left : Option (List ℕ)) → ((bytes : List ℕ) → A bytes → B bytes) → IfSome left A → IfSome left B
@@ -72,8 +80,27 @@ check-not_usage widths tree outcome (Broken refusal broken e) = ap not_usage e
 compile-not_usage : (request : FileRequest) (tree : ProgramTree) (outcome : Outcome) → CompileAnswer request tree outcome → not_usage outcome ≡ true
 compile-not_usage request tree outcome (compile.Broken refusal broken e) = ap not_usage e
 compile-not_usage request tree outcome (BadEntry refusal bad e) = ap not_usage e
-compile-not_usage request tree outcome (Built function ready first e) = ap not_usage e
+compile-not_usage request tree outcome (Built types fun file ready typed first defined e) = ap not_usage e
 compile-not_usage request tree outcome (NotBuilt ready none e) = ap not_usage e
+
+state_refusal-not_usage : (fault : StateFault) (why : Diagnostic) → state_refusal fault ≡ Some why → not_usage (Refuses why) ≡ true
+state_refusal-not_usage (state_fault.BadState line reason) why e = ap not_usage (ap Refuses (sym (some_is _ why e)))
+state_refusal-not_usage state_fault.TooMany why e = ap not_usage (ap Refuses (sym (some_is _ why e)))
+state_refusal-not_usage state_fault.Memory why e = cc
+
+replied-not_usage : (stuck : Bool) (text : List ℕ) → not_usage (if stuck then PrintsStuck text else Prints text) ≡ true
+replied-not_usage true text = refl
+replied-not_usage false text = refl
+
+entry-not_usage : (setting : Setting) (fun : FunTree) (bound : Option ℕ) (back : Bool) (measured : Measured) (lines : List ℕ) (outcome : Outcome) → EntryAnswer setting fun bound back measured lines outcome → not_usage outcome ≡ true
+entry-not_usage setting fun bound back measured lines outcome (run.PastLimit refusal broken e) = ap not_usage e
+entry-not_usage setting fun bound back measured lines outcome (WrongStates fault why none refused is e) = ap not_usage e ∙ state_refusal-not_usage fault why is
+entry-not_usage setting fun bound back measured lines outcome (Replied states replies none are answer e) = ap not_usage e ∙ replied-not_usage (is_one_stuck replies) _
+
+run-not_usage : (request : FileRequest) (lines : List ℕ) (tree : ProgramTree) (outcome : Outcome) → RunAnswer request lines tree outcome → not_usage outcome ≡ true
+run-not_usage request lines tree outcome (run.Broken refusal broken e) = ap not_usage e
+run-not_usage request lines tree outcome (run.BadEntry refusal bad e) = ap not_usage e
+run-not_usage request lines tree outcome (OnEntry found is) = entry-not_usage _ _ _ _ _ lines outcome is
 
 source-not_usage : (bytes : List ℕ) (OnProgram : ProgramTree → Outcome → Type 0) (outcome : Outcome) → ((tree : ProgramTree) → OnProgram tree outcome → not_usage outcome ≡ true) → SourceAnswer bytes OnProgram outcome → not_usage outcome ≡ true
 source-not_usage bytes OnProgram outcome on_program (OnTree tree source is) = on_program tree is
@@ -83,6 +110,7 @@ input-not_usage : (request : Request) (bytes : List ℕ) (outcome : Outcome) →
 input-not_usage Format bytes outcome is = source-not_usage bytes FormatAnswer outcome (λ tree e. ap not_usage e) is
 input-not_usage (Check widths) bytes outcome is = source-not_usage bytes (CheckAnswer widths) outcome (λ tree. check-not_usage widths tree outcome) is
 input-not_usage (Compile file) bytes outcome is = source-not_usage bytes (CompileAnswer file) outcome (λ tree. compile-not_usage file tree outcome) is
+input-not_usage (Run file) bytes outcome is = source-not_usage (parted true bytes).0 (RunAnswer file (parted true bytes).1) outcome (λ tree. run-not_usage file (parted true bytes).1 tree outcome) is
 input-not_usage Simulate bytes outcome is = gates-not_usage bytes SimulateAnswer outcome (λ file rest. simulate-not_usage file rest outcome) is
 input-not_usage Invert bytes outcome is = gates-not_usage bytes InvertAnswer outcome (λ file rest. invert-not_usage file rest outcome) is
 
@@ -121,6 +149,7 @@ refusal_cause words bytes other answer = record { why = other; answer = answer; 
 
 outcome_cause : (words : List (List ℕ)) (bytes : List ℕ) (outcome : Outcome) → Answer words bytes outcome → Cause (outcome_status outcome) words bytes
 outcome_cause words bytes (Prints text) answer = (text, answer)
+outcome_cause words bytes (PrintsStuck text) answer = (text, answer)
 outcome_cause words bytes (Refuses why) answer = refusal_cause words bytes why answer
 
 pub only_where : (left before now : Option (List ℕ)) (words : List (List ℕ)) (ended : Status) → Answered left before now words ended → IfSome left (λ bytes. IsCutShort ended ⊎ Cause ended words bytes)
@@ -135,6 +164,7 @@ usage_only left before now words ended answered e = by_gave (subst (λ (s : Stat
   where
     by_outcome : (outcome : Outcome) → Answer words answered.bytes outcome → outcome_status outcome ≡ status.Usage → IsUsage words
     by_outcome (Prints text) answer same = cc
+    by_outcome (PrintsStuck text) answer same = cc
     by_outcome (Refuses why) answer same = usage_answer words answered.bytes why answer same
 
     by_gave : GaveWhole words answered.bytes before now status.Usage → IsUsage words
@@ -150,6 +180,7 @@ record HasAnswer (words : List (List ℕ)) (bytes : List ℕ) (wanted : Status) 
 
 cause_answer : (words : List (List ℕ)) (bytes : List ℕ) (wanted : Status) → Cause wanted words bytes → HasAnswer words bytes wanted
 cause_answer words bytes status.Ok cause = record { outcome = Prints cause.0; answer = cause.1; status = refl }
+cause_answer words bytes status.Stuck cause = record { outcome = PrintsStuck cause.0; answer = cause.1; status = refl }
 cause_answer words bytes status.Usage cause = record { outcome = Refuses diagnostic.Usage; answer = Usage cause refl; status = refl }
 cause_answer words bytes other cause = record { outcome = Refuses cause.why; answer = cause.answer; status = cause.status }
 

@@ -13,17 +13,14 @@ use Rattle.tw_types.specs.Types.{Widths, AreInRange, Ty}
 use Rattle.tw_resolve.specs.Declarations.{Name}
 use Rattle.tw_resolve.specs.Denotes.{AreTypes, Denotes, DenotesNamed, scope_of}
 use Rattle.tw_resolve.specs.Programs.{IsTyped}
-use Rattle.tw_state.specs.Examples.{main}
 use Rattle.tower.specs.declared.options.Key.{Key}
 use Rattle.tower.specs.declared.options.Key.TheVariants as key
 use Rattle.tower.specs.Requests.{Request, Format, Compile, Simulate, Invert, FileRequest, Settings, Choice, choice_words, values_of, wanted, request_from, AreOptions, Asks, IsUsage}
 use Rattle.tower.specs.Accepted.{IsAccepted, IsReady}
-use Rattle.tower.specs.Form.{is_right}
-use Rattle.tower.specs.FirstTree.{IsFirstTree}
-use Rattle.tower.specs.ReadingTree.{form_in_main}
-use Rattle.tower.specs.Compile.{Built}
+use Rattle.tower.specs.Form.{Form, is_right, form_file}
+use Rattle.tower.specs.ReadingTree.{form_in_main, form_in}
 use Rattle.tower.specs.Sources.{OnTree, NoProgram}
-use Rattle.tower.proofs.FirstTrees.{form-sound}
+use Rattle.tower.proofs.Compiles.{built}
 use Rattle.tower.proofs.Accepting.{is_accepted}
 use Rattle.tower.specs.Outcomes.{Prints, Refuses}
 use Rattle.tower.specs.GateInputs.{OnPrefix}
@@ -36,7 +33,7 @@ nothing_asked request asks = let e = asks.spelled in cc
 
 -- a command without options
 abbrev no_settings : Settings
-no_settings = record { widths = None; entry = None; bound = None; inverse = false }
+no_settings = record { widths = None; entry = None; bound = None; inverse = false; back = false }
 
 nothing_given : AreOptions [] no_settings
 nothing_given = record { choices = []; spelled = refl; values = each; widths_in_range = tt; bound_in_range = tt }
@@ -47,6 +44,7 @@ nothing_given = record { choices = []; spelled = refl; values = each; widths_in_
     each key.Entry = refl
     each key.Bound = refl
     each key.Inverse = refl
+    each key.Back = refl
 
 asks_alone : (command : List ℕ) (request : Request) → request_from command no_settings ≡ Some request → Asks (command ∷ []) request
 asks_alone command request is = record { command = command; options = []; spelled = refl; settings = no_settings; are_options = nothing_given; request_is = is }
@@ -95,7 +93,7 @@ asks_to_compile widths in_range = record {
     choices = (key.Word, decimal widths.word) ∷ (key.Addr, decimal widths.addr) ∷ (key.Entry, codes "main") ∷ []
 
     settings : Settings
-    settings = record { widths = Some widths; entry = Some (codes "main"); bound = None; inverse = false }
+    settings = record { widths = Some widths; entry = Some (codes "main"); bound = None; inverse = false; back = false }
 
     each : (k : Key) → values_of k choices ≡ wanted settings k
     each key.Word = refl
@@ -103,10 +101,15 @@ asks_to_compile widths in_range = record {
     each key.Entry = refl
     each key.Bound = refl
     each key.Inverse = refl
+    each key.Back = refl
 
-main_is_first : IsFirstTree main_tree main
+-- the names of the program
+abbrev main_form : Form
+main_form = record { first = codes "a"; second = Some (codes "b"); result = codes "c"; left = codes "a"; right = codes "b" }
+
+main_is_found : form_in main_tree.decls ≡ Some main_form
 unfolding form_in_main is_right
-main_is_first = (form-sound main_tree.decls (record { first = codes "a"; second = Some (codes "b"); result = codes "c"; left = codes "a"; right = codes "b" }) refl).0
+main_is_found = refl
 
 -- without aliases no name denotes a type
 abbrev no_types : Name → Option Ty
@@ -137,7 +140,7 @@ pub answer_to_compile : Answer (codes "compile" ∷ codes "--word" ∷ codes "1"
 unfolding file_text header digits
 answer_to_compile = OnInput (Compile (plain_request (record { word = 1; addr = 1 })))
     (asks_to_compile (record { word = 1; addr = 1 }) (record { word_from = lit≤ tt; word_to = lit≤ tt; addr_from = lit≤ tt; addr_to = lit≤ tt }))
-    (omega arith) (OnTree main_tree main_is_source (Built main (main_is_ready (record { word = 1; addr = 1 })) main_is_first refl))
+    (omega arith) (OnTree main_tree main_is_source (built (plain_request (record { word = 1; addr = 1 })) main_tree main_form (form_file (record { word = 1; addr = 1 }) false main_form) (main_is_ready (record { word = 1; addr = 1 })) main_is_found refl))
 
 -- the same with the greatest widths
 pub answer_to_compile-wide : Answer (codes "compile" ∷ codes "--word" ∷ codes "32" ∷ codes "--addr" ∷ codes "8" ∷ codes "--entry" ∷ codes "main" ∷ [])
@@ -146,7 +149,7 @@ pub answer_to_compile-wide : Answer (codes "compile" ∷ codes "--word" ∷ code
 unfolding file_text header digits
 answer_to_compile-wide = OnInput (Compile (plain_request (record { word = 32; addr = 8 })))
     (asks_to_compile (record { word = 32; addr = 8 }) (record { word_from = lit≤ tt; word_to = lit≤ tt; addr_from = lit≤ tt; addr_to = lit≤ tt }))
-    (omega arith) (OnTree main_tree main_is_source (Built main (main_is_ready (record { word = 32; addr = 8 })) main_is_first refl))
+    (omega arith) (OnTree main_tree main_is_source (built (plain_request (record { word = 32; addr = 8 })) main_tree main_form (form_file (record { word = 32; addr = 8 }) false main_form) (main_is_ready (record { word = 32; addr = 8 })) main_is_found refl))
 
 -- `format` on the same program
 pub answer_to_format : Answer (codes "format" ∷ []) (codes "fun main(a: bool, b: bool) -> bool { let c <- a && b; return c; }")

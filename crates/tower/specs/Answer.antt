@@ -1,5 +1,5 @@
 -- The one answer that arguments and an input have, and what a call did compared with it.
-use Rattle.std.specs.Prelude.{◌≡◌, ◌⊎◌, ℕ, ◌+◌, ◌<◌, ◌≤◌, List, [], length, Option, IfSome}
+use Rattle.std.specs.Prelude.{◌≡◌, ◌⊎◌, ℕ, ◌+◌, ◌<◌, ◌≤◌, true, List, [], length, Option, IfSome}
 use Rattle.tw_io.specs.Devices.{Appends, AppendsPrefix}
 use Rattle.tw_text.specs.declared.refusal.Counted.TheVariants as counted
 use Rattle.tw_text.specs.declared.refusal.Refusal.{Refusal}
@@ -10,13 +10,15 @@ use Rattle.tw_text.specs.Places.{first_place}
 use Rattle.tw_text.specs.Refusals.{passed}
 use Rattle.tower.specs.declared.status.Status.{Status}
 use Rattle.tower.specs.declared.status.Status.TheVariants as status
-use Rattle.tower.specs.Requests.{Request, Format, Check, Compile, Simulate, Invert, Asks, IsUsage}
-use Rattle.tower.specs.Outcomes.{Outcome, Prints, Refuses, outcome_status, outcome_text, refusal_status}
+use Rattle.tower.specs.Requests.{Request, Format, Check, Compile, Run, Simulate, Invert, Asks, IsUsage}
+use Rattle.tower.specs.Outcomes.{Outcome, Prints, PrintsStuck, Refuses, outcome_status, outcome_text, refusal_status}
 use Rattle.tower.specs.Sources.{SourceAnswer}
 use Rattle.tower.specs.GateInputs.{GatesAnswer}
 use Rattle.tower.specs.Format.{FormatAnswer}
 use Rattle.tower.specs.Check.{CheckAnswer}
 use Rattle.tower.specs.Compile.{CompileAnswer}
+use Rattle.tower.specs.Marks.{parted}
+use Rattle.tower.specs.Run.{RunAnswer}
 use Rattle.tower.specs.Simulate.{SimulateAnswer}
 use Rattle.tower.specs.Invert.{InvertAnswer}
 
@@ -25,6 +27,7 @@ abbrev pub InputAnswer : Request → List ℕ → Outcome → Type 0
 InputAnswer Format bytes outcome = SourceAnswer bytes FormatAnswer outcome
 InputAnswer (Check widths) bytes outcome = SourceAnswer bytes (CheckAnswer widths) outcome
 InputAnswer (Compile file) bytes outcome = SourceAnswer bytes (CompileAnswer file) outcome
+InputAnswer (Run file) bytes outcome = SourceAnswer (parted true bytes).0 (RunAnswer file (parted true bytes).1) outcome
 InputAnswer Simulate bytes outcome = GatesAnswer bytes SimulateAnswer outcome
 InputAnswer Invert bytes outcome = GatesAnswer bytes InvertAnswer outcome
 
@@ -80,9 +83,10 @@ pub record IsRefusedWith (ended : Status) (words : List (List ℕ)) (bytes : Lis
   pub answer : Answer words bytes (Refuses why)
   pub status : refusal_status why ≡ ended
 
--- When a call ends with each status, unless it is cut short: with Ok if a text answers the request, with Usage if the
--- arguments are no request, and with any other status if a refusal with that status is the answer.
+-- When a call ends with each status, unless it is cut short: with Ok if a text answers the request, with Stuck if a text does in which
+-- a statement is stuck, with Usage if the arguments are no request, and with any other status if a refusal with that status is the answer.
 abbrev pub Cause : Status → List (List ℕ) → List ℕ → Type 0
 Cause status.Ok words bytes = (text : List ℕ) × Answer words bytes (Prints text)
+Cause status.Stuck words bytes = (text : List ℕ) × Answer words bytes (PrintsStuck text)
 Cause status.Usage words bytes = IsUsage words
 Cause other words bytes = IsRefusedWith other words bytes

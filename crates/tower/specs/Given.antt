@@ -10,7 +10,7 @@ use Rattle.tower.specs.declared.settings.Settings as code
 use Rattle.tower.specs.declared.request.Options.{Options}
 use Rattle.tower.specs.declared.request.Command.{Command}
 use Rattle.tower.specs.declared.request.Command.TheVariants as command
-use Rattle.tower.specs.Requests.{FileRequest, Request, Format, Check, Compile, Simulate, Invert, Settings, Choice, key_text, is_flag, key_place, choice_words, values_of, number_value}
+use Rattle.tower.specs.Requests.{FileRequest, Request, Format, Check, Compile, Run, Simulate, Invert, Settings, Choice, key_text, is_flag, key_place, choice_words, values_of, number_value}
 
 -- the settings that the code's are
 abbrev pub settings_seen : code.Settings → Settings
@@ -19,6 +19,7 @@ settings_seen settings = record {
   entry = option_map (λ entry. entry.now) settings.entry;
   bound = settings.bound;
   inverse = settings.inverse;
+  back = settings.back;
 }
 
 -- the request that the options of the code are
@@ -29,12 +30,13 @@ abbrev pub request_of : Command → Request
 request_of command.Format = Format
 request_of (command.Check widths) = Check widths
 request_of (command.Compile options) = Compile (file_request options)
+request_of (command.Run options) = Run (file_request options)
 request_of command.Simulate = Simulate
 request_of command.Invert = Invert
 
 -- all keys, by their places
 abbrev pub keys : List Key
-keys = key.Word ∷ key.Addr ∷ key.Entry ∷ key.Bound ∷ key.Inverse ∷ []
+keys = key.Word ∷ key.Addr ∷ key.Entry ∷ key.Bound ∷ key.Inverse ∷ key.Back ∷ []
 
 -- the first of these keys with this text
 abbrev pub key_among : List ℕ → List Key → Option Key

@@ -3,13 +3,16 @@ pub mod Outcomes
 pub mod Sources
 pub mod GateInputs
 pub mod Format
+pub mod FirstTree
 pub mod Form
 pub mod Seen
-pub mod FirstTree
 pub mod ReadingTree
 pub mod Accepted
+pub mod Marks
 pub mod Check
 pub mod Compile
+pub mod Run
+pub mod Replies
 pub mod Invert
 pub mod Simulate
 pub mod Answer

@@ -1,4 +1,4 @@
--- The outcomes of a request: a text, or a refusal.
+-- The outcomes of a request: a text, which may say that statements are stuck, or a refusal.
 use Rattle.std.specs.Prelude.{◌≡◌, ℕ, List, refl, codes}
 use Rattle.std.specs.Fmt.{digits}
 use Rattle.tw_text.specs.declared.refusal.Rule.{Rule}
@@ -9,9 +9,10 @@ use Rattle.tw_text.specs.Refusals.{diagnostic_line}
 use Rattle.tower.specs.declared.status.Status.{Status}
 use Rattle.tower.specs.declared.status.Status.TheVariants as status
 
--- the outcome of a request: a text, or the reason why there is none
+-- the outcome of a request: a text, in which a statement may be stuck on a state, or the reason why there is none
 pub data Outcome : Type 0 where
   Prints : (text : List ℕ) → Outcome
+  PrintsStuck : (text : List ℕ) → Outcome
   Refuses : (why : Diagnostic) → Outcome
 
 -- the status of a refusal by a rule of the source, or by a limit
@@ -48,17 +49,20 @@ refusal_status diagnostic.Usage = status.Usage
 refusal_status (diagnostic.Refused refusal) = rule_status refusal.rule
 refusal_status (diagnostic.BadGateText line) = status.BadGateText
 refusal_status (diagnostic.BitsLength line) = status.BitsLength
+refusal_status (diagnostic.BadState line why) = status.BadState
 refusal_status diagnostic.LevelT = status.LevelT
 refusal_status diagnostic.NotBuilt = status.NotBuilt
 
 -- the status of a call that gives this outcome
 abbrev pub outcome_status : Outcome → Status
 outcome_status (Prints text) = status.Ok
+outcome_status (PrintsStuck text) = status.Stuck
 outcome_status (Refuses why) = refusal_status why
 
 -- the text of an outcome
 abbrev pub outcome_text : Outcome → List ℕ
 outcome_text (Prints text) = text
+outcome_text (PrintsStuck text) = text
 outcome_text (Refuses why) = diagnostic_line why
 
 -- the exit status of the program

@@ -3,21 +3,17 @@ use Rattle.std.specs.Prelude.{ℕ, Bool, true, false, ◌&&◌, if◌then◌else
 use Rattle.std.specs.Str.{bytes_eq}
 use Rattle.tw_syntax.specs.declared.term.OpKind.TheVariants as op
 use Rattle.tw_syntax.specs.Names.{NameTree}
-use Rattle.tw_syntax.specs.Types.{WrittenTree, BoolType}
 use Rattle.tw_syntax.specs.Terms.{AtomTree, PlaceAtom, ExprTree, OpExpr, RhsTree, ExprRhs}
 use Rattle.tw_syntax.specs.Statements as tree
 use Rattle.tw_syntax.specs.Statements.{StmtTree}
 use Rattle.tw_syntax.specs.Programs.{ParamTree, FunTree, DeclTree, FunDecl}
 use Rattle.tw_state.specs.States.{Name}
+use Rattle.tower.specs.FirstTree.{is_bool}
 use Rattle.tower.specs.Form.{Form, is_right}
 
 infixl 10 ◌>>=◌
 abbrev pub ◌>>=◌ : {A B : Type 0} → Option A → (A → Option B) → Option B
 o >>= f = option_and_then f o
-
-abbrev pub is_bool : WrittenTree → Bool
-is_bool (BoolType at) = true
-is_bool other = false
 
 -- the name, if there are no steps
 abbrev pub unstepped : Name → List ℕ → Option Name

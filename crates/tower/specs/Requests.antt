@@ -8,7 +8,8 @@ use Rattle.tw_types.specs.Types.{Widths, AreInRange}
 use Rattle.tower.specs.declared.options.Key.{Key}
 use Rattle.tower.specs.declared.options.Key.TheVariants as key
 
--- the request of `compile`: the widths, the entry and the number of its bound, and whether the inverse file is printed
+-- the entry that a request names: the widths, the function and the number of its bound, and whether its inverse is wanted: the inverse
+-- file, or the run back
 pub record FileRequest : Type 0 where
   pub widths : Widths
   pub entry : List ℕ
@@ -20,6 +21,7 @@ pub data Request : Type 0 where
   Format : Request
   Check : (widths : Widths) → Request
   Compile : (file : FileRequest) → Request
+  Run : (file : FileRequest) → Request
   Simulate : Request
   Invert : Request
 
@@ -29,10 +31,11 @@ pub record Settings : Type 0 where
   pub entry : Option (List ℕ)
   pub bound : Option ℕ
   pub inverse : Bool
+  pub back : Bool
 
 -- no option is given
 abbrev pub is_empty : Settings → Bool
-is_empty settings = not (is_some settings.widths) && not (is_some settings.entry) && not (is_some settings.bound) && not settings.inverse
+is_empty settings = not (is_some settings.widths) && not (is_some settings.entry) && not (is_some settings.bound) && not settings.inverse && not settings.back
 
 -- a request without options
 abbrev pub request_alone : Request → Settings → Option Request
@@ -42,20 +45,28 @@ request_alone request settings = if is_empty settings then Some request else Non
 abbrev pub check_request : Settings → Option Request
 check_request settings = if is_empty (record settings { widths = None }) then option_map Check settings.widths else None
 
--- the request of `compile`: the widths and the entry are needed
-abbrev pub compile_request : Settings → Option Request
-compile_request settings = option_and_then (λ widths. option_map (λ entry. Compile (record {
+-- the entry that settings name, or its inverse: the widths and the entry are needed
+abbrev pub entry_request : Bool → Settings → Option FileRequest
+entry_request inverse settings = option_and_then (λ widths. option_map (λ entry. record {
   widths = widths;
   entry = entry;
   bound = settings.bound;
-  inverse = settings.inverse;
-})) settings.entry) settings.widths
+  inverse = inverse;
+}) settings.entry) settings.widths
+
+-- the request of `compile`, and that of `run`; each has a flag of its own for the inverse
+abbrev pub compile_request : Settings → Option Request
+compile_request settings = if settings.back then None else option_map Compile (entry_request settings.inverse settings)
+
+abbrev pub run_request : Settings → Option Request
+run_request settings = if settings.inverse then None else option_map Run (entry_request settings.back settings)
 
 -- the request that a command with these settings is
 abbrev pub request_from : List ℕ → Settings → Option Request
 request_from command settings =
     if bytes_eq command (codes "check") then check_request settings
     else if bytes_eq command (codes "compile") then compile_request settings
+    else if bytes_eq command (codes "run") then run_request settings
     else if bytes_eq command (codes "format") then request_alone Format settings
     else if bytes_eq command (codes "sim") then request_alone Simulate settings
     else if bytes_eq command (codes "invert") then request_alone Invert settings
@@ -68,10 +79,12 @@ key_text key.Addr = codes "--addr"
 key_text key.Entry = codes "--entry"
 key_text key.Bound = codes "--bound"
 key_text key.Inverse = codes "--inverse"
+key_text key.Back = codes "--back"
 
 -- whether the key is a whole option; otherwise the next argument is its value
 abbrev pub is_flag : Key → Bool
 is_flag key.Inverse = true
+is_flag key.Back = true
 is_flag other = false
 
 -- the place of the key in a table of all keys
@@ -81,6 +94,7 @@ key_place key.Addr = 1
 key_place key.Entry = 2
 key_place key.Bound = 3
 key_place key.Inverse = 4
+key_place key.Back = 5
 
 -- an option: its key, and its value, which a flag does not have
 abbrev pub Choice : Type 0
@@ -107,6 +121,7 @@ wanted settings key.Addr = number_value (option_map (λ widths. widths.addr) set
 wanted settings key.Entry = option_to_list settings.entry
 wanted settings key.Bound = number_value settings.bound
 wanted settings key.Inverse = if settings.inverse then [] ∷ [] else []
+wanted settings key.Back = if settings.back then [] ∷ [] else []
 
 -- the greatest bound of an entry
 abbrev pub greatest_bound : ℕ
@@ -160,7 +175,7 @@ asks_inverse = record {
 }
   where
     push_settings : Settings
-    push_settings = record { widths = Some push_inverse.widths; entry = Some push_inverse.entry; bound = push_inverse.bound; inverse = push_inverse.inverse }
+    push_settings = record { widths = Some push_inverse.widths; entry = Some push_inverse.entry; bound = push_inverse.bound; inverse = push_inverse.inverse; back = false }
 
     each : (k : Key) → values_of k push_options ≡ wanted push_settings k
     each key.Word = refl
@@ -168,6 +183,7 @@ asks_inverse = record {
     each key.Entry = refl
     each key.Bound = refl
     each key.Inverse = refl
+    each key.Back = refl
 
 -- a key that is given twice has both values, in order
 pub values_of-twice : values_of key.Word ((key.Word, codes "3") ∷ (key.Inverse, codes "8") ∷ (key.Word, codes "5") ∷ []) ≡ codes "3" ∷ codes "5" ∷ []

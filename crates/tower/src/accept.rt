@@ -23,6 +23,7 @@ pub fn accept<'a>(
     requires { length bytes.now ≤ INPUT_LIMIT }
     ensures source { IfOk result (λ checked. IsSource bytes.now (program_tree checked.resolved.program.now)) }
     ensures accepted { IfOk result (λ checked. IsAccepted widths (program_tree checked.resolved.program.now)) }
+    ensures widths { IfOk result (λ checked. checked.resolved.tables.types.widths ≡ widths) }
     ensures refused { IfErr result (IsFoundBroken widths bytes.now) }
 {
     let program = parse(alloc, arena, bytes)?;

@@ -2,13 +2,14 @@
 ghost use Rattle.std.specs.Prelude.{◌≡◌, ◌≢◌, ◌≤◌, ◌+◌, ◌⊎◌, ℕ, List, length, IfSome};
 ghost use Rattle.tw_io.specs.Devices.{Rose, TakesBetween, IsAtEnd};
 ghost use Rattle.tw_text.specs.declared.limits.TheConstants.{INPUT_LIMIT};
-ghost use Rattle.tower.specs.Requests.{FileRequest, Format, Check, Compile, Simulate, Invert, Asks, IsUsage};
+ghost use Rattle.tower.specs.Requests.{FileRequest, Format, Check, Compile, Run, Simulate, Invert, Asks, IsUsage};
 ghost use Rattle.tower.specs.Outcomes.{Outcome};
 ghost use Rattle.tower.specs.Answer.{InputAnswer, Answer, Answered, IsComplete, IsCutShort, Cause};
 ghost use Rattle.tw_types.specs.Types as types;
 ghost use Rattle.tower.specs.Check.{Checked};
 ghost use Rattle.tower.specs.Format.{Formatted};
 ghost use Rattle.tower.specs.Compile.{Compiled};
+ghost use Rattle.tower.specs.Run.{Ran};
 ghost use Rattle.tower.specs.Simulate.{Simulated};
 ghost use Rattle.tower.specs.Invert.{Inverted};
 ghost use Rattle.tower.specs.Given.{request_of};
@@ -20,6 +21,7 @@ use crate::ending::{Unanswered, finish, refuse};
 use crate::format::format;
 use crate::invert::invert;
 use crate::request::{Command, command_of};
+use crate::run::run_program;
 use crate::simulate::simulate;
 use crate::status::Status;
 use crate::words::Words;
@@ -41,6 +43,7 @@ fn answer<K: Sink>(
         Command::Format => format(alloc, bytes, output),
         Command::Check(widths) => check(alloc, *widths, bytes, output),
         Command::Compile(options) => compile(alloc, options, bytes, output),
+        Command::Run(options) => run_program(alloc, options, bytes, output),
         Command::Simulate => simulate(alloc, bytes, output),
         Command::Invert => invert(alloc, bytes, output),
     }
@@ -91,6 +94,10 @@ fn run<S: Source, K: Sink>(alloc: Global, words: &Words, input: &mut S, output: 
 /// A program that `check` refuses is refused alike, and then an entry that the program does not have. Programs of one form are
 /// compiled so far. All others are refused as not built.
 ///
+/// `run --word W --addr A --entry F` reads a program, a line `%%`, and the texts of up to 1,024 states of its function `F`, separated by
+/// lines `--`. It writes for each state the result of `F`, or the statement that is stuck, with the same separators. With `--back` the
+/// states are those at the end of `F`, and it writes the states whose results they are. `--bound N` is as for `compile`.
+///
 /// An input that the command does not read is refused with a line that gives the reason, and the place if the refusal has one.
 /// `docs/FORMATS.md` has all texts and refusals.
 pub fn tower_main<S: Source, K: Sink>(
@@ -113,6 +120,8 @@ pub fn tower_main<S: Source, K: Sink>(
         → IfSome (S.left input.old) (λ bytes. Formatted bytes (K.taken output.old) (K.taken output.new)) }
     ensures checked { (widths : types.Widths) → Asks words.now (Check widths) → result ≡ Status.Ok
         → IfSome (S.left input.old) (λ bytes. Checked widths bytes (K.taken output.old) (K.taken output.new)) }
+    ensures ran { (request : FileRequest) → Asks words.now (Run request) → (result ≡ Status.Ok) ⊎ (result ≡ Status.Stuck)
+        → IfSome (S.left input.old) (λ bytes. Ran request bytes (K.taken output.old) (K.taken output.new)) }
     ensures inverted { Asks words.now Invert → result ≡ Status.Ok
         → IfSome (S.left input.old) (λ bytes. Inverted bytes (K.taken output.old) (K.taken output.new)) }
     ensures simulated { Asks words.now Simulate → result ≡ Status.Ok

@@ -1,14 +1,14 @@
 //! `compile`: the gate file of a program. Programs of one form are compiled so far.
-ghost use Rattle.std.specs.Prelude.{◌≡◌, ◌≤◌, true, length, IfOk};
+ghost use Rattle.std.specs.Prelude.{◌≡◌, ◌≤◌, length, IfOk};
 ghost use Rattle.tw_text.specs.declared.limits.TheConstants.{INPUT_LIMIT};
 ghost use Rattle.std.specs.List.{AllByRecursion};
 ghost use Rattle.tw_gate.specs.Gates.{directed};
 ghost use Rattle.tw_gatetext.specs.Text.{HasFewControls};
 ghost use Rattle.tw_gatetext.specs.Files.{plain_file};
-ghost use Rattle.tower.specs.Form.{is_right, function_of};
+ghost use Rattle.tower.specs.Form.{form_file};
 ghost use Rattle.tower.specs.Seen.{form_seen};
 ghost use Rattle.tower.specs.Given.{file_request};
-ghost use Rattle.tower.specs.Compile.{file_of, CompileAnswer};
+ghost use Rattle.tower.specs.Compile.{CompileAnswer};
 ghost use Rattle.tower.specs.Sources.{SourceAnswer};
 ghost use Rattle.tower.specs.Ending.{Did};
 
@@ -43,8 +43,7 @@ fn file_of(
     inverse: bool,
     form: &Form,
 ) -> Result<GateFile, AllocError>
-    requires { is_right (form_seen form.now) ≡ true }
-    ensures defined { IfOk result (λ file. plain_file file ≡ file_of widths inverse (function_of (form_seen form.now))) }
+    ensures defined { IfOk result (λ file. plain_file file ≡ form_file widths inverse (form_seen form.now)) }
     ensures few { IfOk result (λ file. AllByRecursion HasFewControls file.gates) }
 {
     let block = widths.addr;

@@ -3,20 +3,23 @@ ghost use Rattle.std.specs.Prelude.{◌≡◌};
 ghost use Rattle.tw_text.specs.declared.diagnostic.Diagnostic.TheVariants as diagnostic;
 ghost use Rattle.tower.specs.declared.ending.Unanswered.TheVariants as unanswered;
 ghost use Rattle.tower.specs.Outcomes.{rule_status, refusal_status};
-ghost use Rattle.tower.specs.Ending.{of_source, of_gates, of_lines, Refused, Finished};
+ghost use Rattle.tower.specs.Ending.{of_source, of_gates, of_lines, of_states, Refused, Finished};
 
 use crate::status::Status;
-use std::alloc::AllocError;
+use std::alloc::{AllocError, AllocFailed};
 use tw_gatetext::GateFault;
 use tw_io::{Sink, WriteFault, write_all};
-use tw_sim::LinesFault;
+use tw_sim::{LinesFault, too_many};
+use tw_state::StateFault;
 use tw_text::{Diagnostic, Fault, Refusal, Rule};
 
-/// Why a command wrote no whole text.
+/// How a command ends otherwise than with `Ok`.
 #[derive(Debug, Clone, Copy, PartialEq, Eq)]
 pub enum Unanswered {
     /// The request is refused. Nothing is written yet.
     Refused(Diagnostic),
+    /// A statement is stuck on a state. The whole text was written.
+    Stuck,
     /// Memory ran out. Nothing was written.
     Memory,
     /// The sink failed. It took a prefix of the text.
@@ -68,6 +71,20 @@ impl From<LinesFault> for Unanswered {
     }
 }
 
+impl From<StateFault> for Unanswered {
+    ghost from_gives = { λ fault e. e ≡ of_states fault };
+
+    fn from(fault: StateFault) -> Unanswered {
+        match fault {
+            StateFault::BadState { line, why } => {
+                Unanswered::Refused(Diagnostic::BadState { line, why })
+            }
+            StateFault::TooMany => Unanswered::Refused(Diagnostic::Refused(too_many())),
+            StateFault::Memory => Unanswered::Memory,
+        }
+    }
+}
+
 impl From<WriteFault> for Unanswered {
     ghost from_gives = { λ _ e. e ≡ unanswered.WriteFault };
 
@@ -80,6 +97,14 @@ impl From<AllocError> for Unanswered {
     ghost from_gives = { λ _ e. e ≡ unanswered.Memory };
 
     fn from(_error: AllocError) -> Unanswered {
+        Unanswered::Memory
+    }
+}
+
+impl<T: Drop> From<AllocFailed<T>> for Unanswered {
+    ghost from_gives = { λ _ e. e ≡ unanswered.Memory };
+
+    fn from(_error: AllocFailed<T>) -> Unanswered {
         Unanswered::Memory
     }
 }
@@ -126,6 +151,7 @@ fn refusal_status(why: &Diagnostic) -> Status
         Diagnostic::Refused(refusal) => rule_status(refusal.rule),
         Diagnostic::BadGateText { .. } => Status::BadGateText,
         Diagnostic::BitsLength { .. } => Status::BitsLength,
+        Diagnostic::BadState { .. } => Status::BadState,
         Diagnostic::LevelT => Status::LevelT,
         Diagnostic::NotBuilt => Status::NotBuilt,
     }
@@ -148,6 +174,7 @@ pub fn finish<K: Sink>(output: &mut K, did: Result<(), Unanswered>) -> Status
     match did {
         Ok(()) => Status::Ok,
         Err(Unanswered::Refused(why)) => refuse(output, &why),
+        Err(Unanswered::Stuck) => Status::Stuck,
         Err(Unanswered::Memory) => Status::Memory,
         Err(Unanswered::WriteFault) => Status::WriteFault,
     }

@@ -5,8 +5,10 @@ ghost use Rattle.tw_syntax.specs.Types.{written_tree};
 ghost use Rattle.tw_syntax.specs.Terms.{atom_tree, expr_tree};
 ghost use Rattle.tw_syntax.specs.Statements.{stmt_tree, stmts_tree};
 ghost use Rattle.tw_syntax.specs.Programs.{param_tree, fun_tree, decl_tree, program_tree};
-ghost use Rattle.tower.specs.Form.{are_different, is_among, parameters_of, is_right};
-ghost use Rattle.tower.specs.ReadingTree.{is_bool, name_in, operands_in, assigned_in, body_in, parameters_in, is_main, checked, form_in_main, form_in_fun, form_in_decl, form_in};
+ghost use Rattle.tw_resolve.specs.Declarations.{is_one_of};
+ghost use Rattle.tower.specs.FirstTree.{is_bool};
+ghost use Rattle.tower.specs.Form.{are_different, parameters_of, is_right};
+ghost use Rattle.tower.specs.ReadingTree.{name_in, operands_in, assigned_in, body_in, parameters_in, is_main, checked, form_in_main, form_in_fun, form_in_decl, form_in};
 ghost use Rattle.tower.specs.Seen.{form_seen, name_seen, operands_seen, assigned_seen, parameters_seen};
 
 use tw_syntax::{
@@ -63,7 +65,7 @@ impl<'a> Form<'a> {
     }
 
     fn has_parameter(&self, name: &str) -> bool
-        ensures { result ≡ is_among name.now (parameters_of self.now.first.now (option_map name_seen self.now.second)) }
+        ensures { result ≡ is_one_of name.now (parameters_of self.now.first.now (option_map name_seen self.now.second)) }
     {
         match self.second {
             None => name == self.first,

@@ -9,14 +9,23 @@ mod check;
 #[cfg(test)]
 mod check_tests;
 mod compile;
+#[cfg(test)]
+mod compile_tests;
 mod ending;
 mod first_form;
 mod format;
 mod invert;
+mod marks;
 #[cfg(test)]
 mod measure_tests;
 mod options;
+#[cfg(test)]
+mod random_tests;
+mod replies;
 mod request;
+mod run;
+#[cfg(test)]
+mod run_tests;
 mod settings;
 mod simulate;
 mod status;

@@ -19,10 +19,12 @@ pub enum Key {
     Bound,
     /// The inverse file is printed.
     Inverse,
+    /// The program is run back.
+    Back,
 }
 
 /// The number of keys.
-const KEY_COUNT: usize = 5;
+const KEY_COUNT: usize = 6;
 
 impl Key {
     /// The key with this text.
@@ -35,6 +37,7 @@ impl Key {
             "--entry" => Some(Key::Entry),
             "--bound" => Some(Key::Bound),
             "--inverse" => Some(Key::Inverse),
+            "--back" => Some(Key::Back),
             _ => None,
         }
     }
@@ -43,7 +46,7 @@ impl Key {
     fn is_flag(self) -> bool
         ensures { result ≡ is_flag self }
     {
-        self == Key::Inverse
+        self == Key::Inverse || self == Key::Back
     }
 
     /// The number of arguments that an option with this key takes.

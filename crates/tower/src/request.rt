@@ -1,23 +1,23 @@
 //! The request that the arguments of a call are.
 ghost use Rattle.std.specs.Prelude.{◌≡◌, IfSome, option_map};
 ghost use Rattle.std.specs.Option.{IfNone};
-ghost use Rattle.tower.specs.Requests.{Asks, IsUsage, check_request, compile_request, request_alone, request_from};
-ghost use Rattle.tower.specs.Given.{request_of, settings_seen};
+ghost use Rattle.tower.specs.Requests.{Asks, IsUsage, check_request, compile_request, entry_request, request_alone, request_from, run_request};
+ghost use Rattle.tower.specs.Given.{file_request, request_of, settings_seen};
 
 use crate::settings::{Settings, settings_of};
 use crate::words::Words;
 use tw_types::Widths;
 
-/// The options of `compile`.
+/// The entry that a command names.
 #[derive(Debug, Clone, Copy, PartialEq, Eq)]
 pub struct Options<'w> {
-    /// The widths that the program is compiled for.
+    /// The widths that the program is compiled for, or run with.
     pub widths: Widths,
-    /// The name of the function that is compiled.
+    /// The name of the function.
     pub entry: &'w str,
     /// The number that its bound has.
     pub bound: Option<u8>,
-    /// Whether the inverse file is printed.
+    /// Whether its inverse is wanted: the inverse file, or the run back.
     pub inverse: bool,
 }
 
@@ -30,6 +30,8 @@ pub enum Command<'w> {
     Check(Widths),
     /// The gate file of a program, or the inverse file.
     Compile(Options<'w>),
+    /// The results of a program on states, or the states whose results are given.
+    Run(Options<'w>),
     /// The images of lines of bits under the gates of a file.
     Simulate,
     /// The inverse of a gate file.
@@ -51,18 +53,44 @@ fn check_of<'w>(settings: &Settings<'w>) -> Option<Command<'w>>
     Some(Command::Check(widths))
 }
 
-/// `compile` with these settings. The widths and the entry are needed.
-fn compile_of<'w>(settings: &Settings<'w>) -> Option<Command<'w>>
-    ensures { option_map request_of result ≡ compile_request (settings_seen settings.now) }
+/// The entry that settings name, or its inverse. The widths and the entry are needed.
+fn entry_of<'w>(settings: &Settings<'w>, inverse: bool) -> Option<Options<'w>>
+    ensures { option_map file_request result ≡ entry_request inverse (settings_seen settings.now) }
 {
     let widths = settings.widths?;
     let entry = settings.entry?;
-    Some(Command::Compile(Options {
+    Some(Options {
         widths,
         entry,
         bound: settings.bound,
-        inverse: settings.inverse,
-    }))
+        inverse,
+    })
+}
+
+/// `compile` with these settings.
+fn compile_of<'w>(settings: &Settings<'w>) -> Option<Command<'w>>
+    ensures { option_map request_of result ≡ compile_request (settings_seen settings.now) }
+{
+    if settings.back {
+        return None;
+    }
+    let Some(options) = entry_of(settings, settings.inverse) else {
+        return None;
+    };
+    Some(Command::Compile(options))
+}
+
+/// `run` with these settings.
+fn run_of<'w>(settings: &Settings<'w>) -> Option<Command<'w>>
+    ensures { option_map request_of result ≡ run_request (settings_seen settings.now) }
+{
+    if settings.inverse {
+        return None;
+    }
+    let Some(options) = entry_of(settings, settings.back) else {
+        return None;
+    };
+    Some(Command::Run(options))
 }
 
 /// The command of this name with these settings. `None` if there is none, or if an option is missing or not allowed.
@@ -72,6 +100,7 @@ fn request_from<'w>(command: &str, settings: &Settings<'w>) -> Option<Command<'w
     match command {
         "check" => check_of(settings),
         "compile" => compile_of(settings),
+        "run" => run_of(settings),
         "format" if settings.is_empty() => Some(Command::Format),
         "sim" if settings.is_empty() => Some(Command::Simulate),
         "invert" if settings.is_empty() => Some(Command::Invert),

@@ -21,6 +21,8 @@ pub struct Settings<'w> {
     pub bound: Option<u8>,
     /// Whether the inverse file is printed.
     pub inverse: bool,
+    /// Whether the program is run back.
+    pub back: bool,
 }
 
 impl<'w> Settings<'w> {
@@ -28,7 +30,11 @@ impl<'w> Settings<'w> {
     pub fn is_empty(&self) -> bool
         ensures { result ≡ is_empty (settings_seen self.now) }
     {
-        self.widths.is_none() && self.entry.is_none() && self.bound.is_none() && !self.inverse
+        self.widths.is_none()
+            && self.entry.is_none()
+            && self.bound.is_none()
+            && !self.inverse
+            && !self.back
     }
 }
 
@@ -90,5 +96,6 @@ pub fn settings_of(words: &Words) -> Option<Settings<'_>>
         entry: given.value(Key::Entry),
         bound,
         inverse: given.value(Key::Inverse).is_some(),
+        back: given.value(Key::Back).is_some(),
     })
 }

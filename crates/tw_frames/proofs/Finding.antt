@@ -12,7 +12,7 @@ use Rattle.tw_resolve.specs.Setting.{Setting}
 use Rattle.tw_state.proofs.Basics.{by_option}
 use Rattle.tw_frames.specs.declared.measured.Measured.{Measured}
 use Rattle.tw_frames.specs.Measures.{no_steps, in_turn, enclosed, under_if, one_more, capped, Measures, MeasuresNothing, MeasuresThen, MeasuresBlock, MeasuresElse, MeasuresIf, MeasuresWith, MeasuresCall, MeasuresCallZero}
-use Rattle.tw_frames.specs.MeasureTable.{FindsCallee, Finds}
+use Rattle.tw_frames.specs.MeasureTable.{Known, FindsCallee, Finds}
 
 -- a capped count of capped parts is the capped count of the parts
 min_sum : (m a b : ℕ) → min (min a m + min b m) m ≡ min (a + b) m
@@ -67,7 +67,7 @@ capped_left a b = sym (capped_in_turn (capped a) b) ∙ ap (λ x. capped (in_tur
 capped_right : (a b : Measured) → capped (in_turn a (capped b)) ≡ capped (in_turn a b)
 capped_right a b = sym (capped_in_turn a (capped b)) ∙ ap (λ x. capped (in_turn (capped a) x)) (capped_twice b) ∙ capped_in_turn a b
 
-module _ (setting : Setting) (known : List Measured) (own : ℕ) where
+module _ (setting : Setting) (known : Known) (own : ℕ) where
   pub found_nothing : Finds setting known own Nothing no_steps
   found_nothing there a measures = by measures
     where
@@ -131,7 +131,7 @@ module _ (setting : Setting) (known : List Measured) (own : ℕ) where
           by_option (number_of setting.funs callee.text) (λ none. absurd (none-some fun (ap (option_and_then (slice_get setting.funs)) (sym none) ∙ named)))
           (λ j number.
           let at_j = ap (option_and_then (slice_get setting.funs)) (sym number) ∙ named in
-          ap (λ v. capped (one_more v)) (finds.runs j n (capped (enclosed p)) number is (there j n fun p number at_j is m)) ∙ capped_one_more (enclosed p))
+          ap (λ v. capped (one_more v)) (let body = there j n fun p number at_j is m in finds.runs j n (capped (enclosed p)) number is body.0 body.1) ∙ capped_one_more (enclosed p))
       by (MeasuresCallZero none) = ap (λ v. capped (one_more v)) (finds.none none)
 
   -- the statements of a list: those before are counted, and the rest follow

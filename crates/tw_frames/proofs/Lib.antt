@@ -5,4 +5,5 @@ pub mod Marking
 pub mod Finding
 pub mod Knowing
 pub mod WithinLimits
+pub mod Depths
 pub mod WorkedMeasures

@@ -1,5 +1,5 @@
 -- How the measures of functions are found: the pairs of a function and the number of its bound that calls reach, and the measure of each.
-use Rattle.std.specs.Prelude.{◌≡◌, ◌≤◌, ◌<◌, ◌+◌, ◌*◌, ℕ, Bool, true, List, length, slice_get, Option, Some, None}
+use Rattle.std.specs.Prelude.{◌≡◌, ◌≤◌, ◌<◌, ◌+◌, ◌*◌, ◌^◌, ℕ, Bool, true, List, length, slice_get, Option, Some, None}
 use Rattle.tw_syntax.specs.Names.{NameTree}
 use Rattle.tw_syntax.specs.Programs.{FunTree}
 use Rattle.tw_syntax.specs.Statements.{StmtTree, Nothing, Then, Else, LetStmt, SwapStmt, MemSwapStmt, IfStmt, WithStmt, BlockStmt, SkipStmt}
@@ -61,16 +61,21 @@ AreMarkedFrom setting pair marks =
     (k own : ℕ) (fun : FunTree) → own < 256 → pair ≤ pair_number k own → slice_get marks (pair_number k own) ≡ Some true
     → slice_get setting.funs k ≡ Some fun → StmtMarked setting (pair_number k own) marks own fun.body
 
--- the measures of all callees of a right side are known
-abbrev pub RhsKnown : Setting → List Measured → ℕ → RhsTree → Type 0
+-- the measures that are known, by the numbers of pairs
+abbrev pub Known : Type 0
+Known = ℕ → Option Measured
+
+-- the measures of all callees of a right side are known; their pairs have numbers that a `usize` holds
+abbrev pub RhsKnown : Setting → Known → ℕ → RhsTree → Type 0
 RhsKnown setting known own (CallRhs callee bound args) =
     (j n : ℕ) (fun : FunTree) (a : Measured) → number_of setting.funs callee.text ≡ Some j → slice_get setting.funs j ≡ Some fun
-    → callee_bound own bound ≡ Some n → Measures setting n fun.body a → slice_get known (pair_number j n) ≡ Some (capped (enclosed a))
+    → callee_bound own bound ≡ Some n → Measures setting n fun.body a
+    → (pair_number j n < 2 ^ 64) × (known (pair_number j n) ≡ Some (capped (enclosed a)))
 RhsKnown setting known own (ExprRhs expr) = Unit {0}
 RhsKnown setting known own (AllocRhs to) = Unit {0}
 
 -- the measures of all callees of a statement are known
-abbrev pub StmtKnown : Setting → List Measured → ℕ → StmtTree → Type 0
+abbrev pub StmtKnown : Setting → Known → ℕ → StmtTree → Type 0
 StmtKnown setting known own Nothing = Unit {0}
 StmtKnown setting known own (Then first rest) = StmtKnown setting known own first × StmtKnown setting known own rest
 StmtKnown setting known own (Else at stmts) = StmtKnown setting known own stmts
@@ -83,24 +88,24 @@ StmtKnown setting known own (BlockStmt at body) = StmtKnown setting known own bo
 StmtKnown setting known own (SkipStmt at) = Unit {0}
 
 -- this is the capped measure of the body of a callee, if it is known; with the bound 0 nothing runs
-pub record FindsCallee (setting : Setting) (known : List Measured) (own : ℕ) (callee : NameTree) (bound : Option BoundTree) (found : Measured) : Type 0 where
+pub record FindsCallee (setting : Setting) (known : Known) (own : ℕ) (callee : NameTree) (bound : Option BoundTree) (found : Measured) : Type 0 where
   pub runs : (j n : ℕ) (body : Measured) → number_of setting.funs callee.text ≡ Some j → callee_bound own bound ≡ Some n
-      → slice_get known (pair_number j n) ≡ Some body → found ≡ body
+      → pair_number j n < 2 ^ 64 → known (pair_number j n) ≡ Some body → found ≡ body
   pub none : callee_bound own bound ≡ None → found ≡ no_steps
 
 -- this is the capped measure of a statement, if those of its callees are known
-abbrev pub Finds : Setting → List Measured → ℕ → StmtTree → Measured → Type 0
+abbrev pub Finds : Setting → Known → ℕ → StmtTree → Measured → Type 0
 Finds setting known own s found = StmtKnown setting known own s → (a : Measured) → Measures setting own s a → found ≡ capped a
 
 -- this is the capped measure of the function of a pair, if those of its callees are known
-abbrev pub FindsPair : Setting → List Measured → ℕ → Measured → Type 0
+abbrev pub FindsPair : Setting → Known → ℕ → Measured → Type 0
 FindsPair setting known pair found =
     (k own : ℕ) (fun : FunTree) (a : Measured) → own < 256 → pair ≡ pair_number k own → slice_get setting.funs k ≡ Some fun
     → StmtKnown setting known own fun.body → Measures setting own fun.body a → found ≡ capped (enclosed a)
 
--- the measures of all marked pairs up to here are known
-abbrev pub AreKnown : Setting → List Bool → List Measured → Type 0
-AreKnown setting marks known =
-    (k own : ℕ) (fun : FunTree) (a : Measured) → own < 256 → pair_number k own < length known
+-- the measures of all marked pairs before the given one are known
+abbrev pub AreKnown : Setting → List Bool → ℕ → Known → Type 0
+AreKnown setting marks pair known =
+    (k own : ℕ) (fun : FunTree) (a : Measured) → own < 256 → pair_number k own < pair
     → slice_get marks (pair_number k own) ≡ Some true → slice_get setting.funs k ≡ Some fun → Measures setting own fun.body a
-    → slice_get known (pair_number k own) ≡ Some (capped (enclosed a))
+    → known (pair_number k own) ≡ Some (capped (enclosed a))

@@ -28,11 +28,11 @@ in_turn first rest = record {
   if_depth = max first.if_depth rest.if_depth;
 }
 
--- a block, or the body of a function, encloses what runs in it; blocks one after the other are as deep as one block of all
+-- a block, or the body of a function, is one deeper than what it encloses; two blocks are as deep as one block of both
 abbrev pub enclosed : Measured → Measured
 enclosed inner = record inner { depth = 1 + inner.depth }
 
--- an `if` encloses its branches
+-- an `if` is one deeper than its branches
 abbrev pub under_if : Measured → Measured
 under_if branches = record branches { if_depth = 1 + branches.if_depth }
 
@@ -40,7 +40,7 @@ under_if branches = record branches { if_depth = 1 + branches.if_depth }
 abbrev pub one_more : Measured → Measured
 one_more parts = record parts { statements = 1 + parts.statements }
 
--- so much does a statement run, in a function of the program whose bound has this number
+-- how much a statement runs, in a function whose bound has this number
 pub data Measures (setting : Setting) : ℕ → StmtTree → Measured → Type 0 where
   -- no statements, and a statement and then the rest
   MeasuresNothing : {own : ℕ} → Measures setting own Nothing no_steps
@@ -70,7 +70,7 @@ pub data Measures (setting : Setting) : ℕ → StmtTree → Measured → Type 0
   MeasuresCallZero : {callee : NameTree} {own : ℕ} {at forward target bound args : _}
       → callee_bound own bound ≡ None → Measures setting own (LetStmt at forward target (CallRhs callee bound args)) (one_more no_steps)
 
--- so much does a function run with this bound; with the bound 0 no body runs
+-- how much a function runs with this bound; with the bound 0 no body runs
 pub data MeasuresEntry (setting : Setting) (fun : FunTree) (bound : Option ℕ) : Measured → Type 0 where
   MeasuresBody : {a : Measured} (n : ℕ)
       → running_bound bound ≡ Some n → Measures setting n fun.body a → MeasuresEntry setting fun bound (enclosed a)
@@ -80,7 +80,7 @@ pub data MeasuresEntry (setting : Setting) (fun : FunTree) (bound : Option ℕ) 
 abbrev pub capped : Measured → Measured
 capped measured = record { statements = reported measured.statements; depth = reported measured.depth; if_depth = reported measured.if_depth }
 
--- so much does an entry of the program run
+-- how much an entry of the program runs
 pub record IsMeasured (setting : Setting) (entry : Entry) (measured : Measured) : Type 0 where
   pub fun : FunTree
   pub at : slice_get setting.funs entry.fun ≡ Some fun
@@ -96,6 +96,6 @@ pub record HasOneMeasure (setting : Setting) (entry : Entry) : Type 0 where
 abbrev pub within_limit : Counted → ℕ → Demand
 within_limit what found = demand_within (rule.Limit what) first_place (reported found) (limit_of what)
 
--- what is demanded of an entry that runs so much: its statements are within their limit, and then its depth
+-- the demands on the measure of an entry: its statements are within their limit, and then its depth
 abbrev pub limit_rules : Measured → List Demand
 limit_rules measured = within_limit counted.Statements measured.statements ∷ within_limit counted.Depth measured.depth ∷ []

@@ -1,5 +1,6 @@
-//! The layout of wires, and the inventory of a circuit.
-//! The definitions of `specs/` give the layout of the wires and the inventory of the gates, by recursion on the function.
+//! The layout of wires, the inventory of a circuit, and how much an entry runs.
+//! The definitions of `specs/` give the layout of the wires and the inventory of the gates, by recursion on the function, and the
+//! number and the nesting of the statements that run, across calls.
 #![tactic(auto)]
 
 mod marks;

@@ -10,7 +10,7 @@ ghost use Rattle.tw_resolve.specs.Resolved.{resolved_setting};
 ghost use Rattle.tw_state.specs.Steps.{callee_bound};
 ghost use Rattle.tw_frames.specs.MeasureTable.{pair_number, RhsMarked, StmtMarked, MarksMore, MarksCalls, AreMarkedFrom};
 
-use crate::pairs::called_pair;
+use crate::pairs::{called_pair, pair_of};
 use std::alloc::{AllocError, Global};
 use tw_resolve::Resolved;
 use tw_syntax::{No, Rhs, Stmt, StmtKind};
@@ -90,8 +90,7 @@ fn mark_pair(resolved: &Resolved<'_>, marks: &mut [bool], pair: usize)
     ensures more { MarksMore pair marks.old marks.new }
     ensures marked { (k own : ℕ) (fun : FunTree) → own < 256 → pair ≡ pair_number k own → slice_get (resolved_setting resolved.now).funs k ≡ Some fun → pair ≤ length marks.old → StmtMarked (resolved_setting resolved.now) pair marks.new own fun.body }
 {
-    let fun = pair / 256;
-    let own = (pair % 256) as u8;
+    let (fun, own) = pair_of(pair);
     if fun < resolved.fun_count() {
         mark_stmts(resolved, marks, pair, own, resolved.fun_at(fun).body);
     }

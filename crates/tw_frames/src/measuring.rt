@@ -1,5 +1,7 @@
 //! How much statements and entries run.
-ghost use Rattle.std.specs.Prelude.{◌≡◌, ◌<◌, ◌∷◌, [], ℕ, Bool, true, length, slice_get, Some, option_map, IfOk};
+ghost use Rattle.std.specs.Prelude.{◌≡◌, ◌<◌, ◌+◌, ◌∷◌, [], ℕ, Bool, true, nat_eq, length, slice_get, Some, option_map, IfOk, OnOk};
+ghost use Rattle.indexmap.specs.IndexMap.{get};
+ghost use Rattle.tw_text.specs.declared.limits.TheConstants.{DEPTH_LIMIT};
 ghost use Rattle.tw_text.specs.declared.place.Pos.{Pos};
 ghost use Rattle.tw_syntax.specs.Names.{NameTree, name_tree, path_tree};
 ghost use Rattle.tw_syntax.specs.Programs.{FunTree, program_tree};
@@ -10,6 +12,7 @@ ghost use Rattle.tw_resolve.specs.Demands.{Tries};
 ghost use Rattle.tw_resolve.specs.Expressions.{fun_named};
 ghost use Rattle.tw_resolve.specs.Resolved.{resolved_setting};
 ghost use Rattle.tw_check.specs.EntryPoints.{IsEntry};
+ghost use Rattle.tw_state.specs.Depth.{EntryWithin};
 ghost use Rattle.tw_state.specs.Steps.{callee_bound};
 ghost use Rattle.tw_frames.specs.declared.measured.Measured.{Measured};
 ghost use Rattle.tw_frames.specs.Measures.{capped, enclosed, Measures, IsMeasured, HasOneMeasure, within_limit, limit_rules};
@@ -17,35 +20,48 @@ ghost use Rattle.tw_frames.specs.MeasureTable.{pair_number, Finds, FindsCallee, 
 
 use crate::marks::reached_pairs;
 use crate::measured::Measured;
-use crate::pairs::{called_pair, pair_number, running_bound};
+use crate::pairs::{called_pair, pair_number, pair_of, running_bound};
+use indexmap::IndexMap;
 use std::alloc::{AllocError, Global};
 use tw_check::{Checked, Entry};
 use tw_resolve::Resolved;
 use tw_syntax::{Bound, Name, No, Rhs, Stmt, StmtKind};
 use tw_text::{Counted, Fault, Pos, Refusal};
 
-/// How much the body of a callee runs. `known` has the measures of the earlier pairs.
-fn measure_callee(
-    resolved: &Resolved<'_>,
-    known: &[Measured],
-    own: u8,
-    callee: &Name<'_>,
-    bound: &Option<Bound<'_>>,
-) -> Measured
-    ensures { FindsCallee (resolved_setting resolved.now) known.now own (name_tree callee.now) (option_map bound_tree bound.now) result }
+/// The measure of a pair; nothing if it is not known.
+fn known_at(known: &IndexMap<usize, Measured>, pair: usize) -> Measured
+    ensures { (a : Measured) → get nat_eq known.now pair ≡ Some a → result ≡ a }
 {
-    let Some(pair) = called_pair(resolved, own, callee, bound) else {
-        return Measured::nothing();
-    };
-    match known.get(pair) {
+    match known.get(&pair) {
         Some(found) => *found,
         None => Measured::nothing(),
     }
 }
 
+/// How much the body of a callee runs. `known` has the measures of the earlier pairs.
+fn measure_callee(
+    resolved: &Resolved<'_>,
+    known: &IndexMap<usize, Measured>,
+    own: u8,
+    callee: &Name<'_>,
+    bound: &Option<Bound<'_>>,
+) -> Measured
+    ensures { FindsCallee (resolved_setting resolved.now) (get nat_eq known.now) own (name_tree callee.now) (option_map bound_tree bound.now) result }
+{
+    let Some(pair) = called_pair(resolved, own, callee, bound) else {
+        return Measured::nothing();
+    };
+    known_at(known, pair)
+}
+
 /// How much an assignment or an un-assignment with this right side runs.
-fn measure_rhs(resolved: &Resolved<'_>, known: &[Measured], own: u8, rhs: &Rhs<'_>) -> Measured
-    ensures { (at : Pos) (forward : Bool) (target : NameTree) → Finds (resolved_setting resolved.now) known.now own (LetStmt at forward target (rhs_tree rhs.now)) result }
+fn measure_rhs(
+    resolved: &Resolved<'_>,
+    known: &IndexMap<usize, Measured>,
+    own: u8,
+    rhs: &Rhs<'_>,
+) -> Measured
+    ensures { (at : Pos) (forward : Bool) (target : NameTree) → Finds (resolved_setting resolved.now) (get nat_eq known.now) own (LetStmt at forward target (rhs_tree rhs.now)) result }
 {
     match rhs {
         Rhs::Call { callee, bound, .. } => {
@@ -61,11 +77,11 @@ fn measure_rhs(resolved: &Resolved<'_>, known: &[Measured], own: u8, rhs: &Rhs<'
 #[tactic(auto, using(crate::proofs::Finding::left_first))]
 fn measure_stmts(
     resolved: &Resolved<'_>,
-    known: &[Measured],
+    known: &IndexMap<usize, Measured>,
     own: u8,
     stmts: &[Stmt<'_>],
 ) -> Measured
-    ensures { Finds (resolved_setting resolved.now) known.now own (stmts_tree stmts.now) result }
+    ensures { Finds (resolved_setting resolved.now) (get nat_eq known.now) own (stmts_tree stmts.now) result }
 {
     let mut total = Measured::nothing();
     for stmt in stmts {
@@ -78,11 +94,11 @@ fn measure_stmts(
 #[cycle(measure)]
 fn measure_else(
     resolved: &Resolved<'_>,
-    known: &[Measured],
+    known: &IndexMap<usize, Measured>,
     own: u8,
     no: &Option<No<'_>>,
 ) -> Measured
-    ensures { Finds (resolved_setting resolved.now) known.now own (else_tree no.now) result }
+    ensures { Finds (resolved_setting resolved.now) (get nat_eq known.now) own (else_tree no.now) result }
 {
     match no {
         Some(other) => measure_stmts(resolved, known, own, other.stmts),
@@ -92,8 +108,13 @@ fn measure_else(
 
 /// How much a statement runs.
 #[cycle(measure)]
-fn measure_stmt(resolved: &Resolved<'_>, known: &[Measured], own: u8, stmt: &Stmt<'_>) -> Measured
-    ensures { Finds (resolved_setting resolved.now) known.now own (stmt_tree stmt.now) result }
+fn measure_stmt(
+    resolved: &Resolved<'_>,
+    known: &IndexMap<usize, Measured>,
+    own: u8,
+    stmt: &Stmt<'_>,
+) -> Measured
+    ensures { Finds (resolved_setting resolved.now) (get nat_eq known.now) own (stmt_tree stmt.now) result }
 {
     match &stmt.kind {
         StmtKind::Let { rhs, .. } => measure_rhs(resolved, known, own, rhs),
@@ -119,11 +140,10 @@ fn measure_stmt(resolved: &Resolved<'_>, known: &[Measured], own: u8, stmt: &Stm
 }
 
 /// How much the function of a pair runs. `known` has the measures of the earlier pairs.
-fn measure_pair(resolved: &Resolved<'_>, known: &[Measured], pair: usize) -> Measured
-    ensures { FindsPair (resolved_setting resolved.now) known.now pair result }
+fn measure_pair(resolved: &Resolved<'_>, known: &IndexMap<usize, Measured>, pair: usize) -> Measured
+    ensures { FindsPair (resolved_setting resolved.now) (get nat_eq known.now) pair result }
 {
-    let fun = pair / 256;
-    let own = (pair % 256) as u8;
+    let (fun, own) = pair_of(pair);
     if fun < resolved.fun_count() {
         measure_stmts(resolved, known, own, resolved.fun_at(fun).body).enclosed()
     } else {
@@ -131,36 +151,34 @@ fn measure_pair(resolved: &Resolved<'_>, known: &[Measured], pair: usize) -> Mea
     }
 }
 
-/// How much the function of a pair runs, if the pair is marked. There are more pairs.
+/// Finds how much the function of a pair runs, if the pair is marked. There are more pairs. An error: out of memory.
 fn measure_marked(
-    resolved: &Resolved<'_>,
-    known: &[Measured],
+    checked: &Checked<'_>,
+    known: &mut IndexMap<usize, Measured>,
     marks: &[bool],
     pair: usize,
-) -> Measured
+) -> Result<(), AllocError>
     requires { pair < length marks.now }
-    ensures { slice_get marks.now pair ≡ Some true → FindsPair (resolved_setting resolved.now) known.now pair result }
+    ensures { AreMarkedFrom (resolved_setting checked.now.resolved) 0 marks.now → AreKnown (resolved_setting checked.now.resolved) marks.now pair (get nat_eq known.old) → OnOk result (AreKnown (resolved_setting checked.now.resolved) marks.now (pair + 1) (get nat_eq known.new)) }
 {
     if marks[pair] {
-        measure_pair(resolved, known, pair)
-    } else {
-        Measured::nothing()
+        let found = measure_pair(&checked.resolved, known, pair);
+        known.insert(pair, found)?;
     }
+    Ok(())
 }
 
-/// How much the function of each pair runs, for the marked pairs; nothing for the others. An error: out of memory.
+/// How much the function of each marked pair runs. An error: out of memory.
 fn measure_pairs(
     alloc: Global,
     checked: &Checked<'_>,
     marks: &[bool],
-) -> Result<Vec<Measured>, AllocError>
-    ensures len { IfOk result (λ known. length known.items ≡ length marks.now) }
-    ensures known { AreMarkedFrom (resolved_setting checked.now.resolved) 0 marks.now → IfOk result (λ known. AreKnown (resolved_setting checked.now.resolved) marks.now known.items) }
+) -> Result<IndexMap<usize, Measured>, AllocError>
+    ensures { AreMarkedFrom (resolved_setting checked.now.resolved) 0 marks.now → IfOk result (λ known. AreKnown (resolved_setting checked.now.resolved) marks.now (length marks.now) (get nat_eq known)) }
 {
-    let mut known = Vec::new(alloc);
+    let mut known = IndexMap::new(alloc);
     for pair in 0..marks.len() {
-        let found = measure_marked(&checked.resolved, &known, marks, pair);
-        known.push(found)?;
+        measure_marked(checked, &mut known, marks, pair)?;
     }
     Ok(known)
 }
@@ -177,7 +195,7 @@ fn measure_entry(alloc: Global, checked: &Checked<'_>, entry: Entry) -> Result<M
     };
     let marks = reached_pairs(alloc, &checked.resolved, last)?;
     let known = measure_pairs(alloc, checked, &marks)?;
-    Ok(known[last])
+    Ok(known_at(&known, last))
 }
 
 /// Refuses a count that is above its limit.
@@ -205,6 +223,7 @@ pub fn measure(alloc: Global, checked: &Checked<'_>, entry: Entry) -> Result<Mea
     requires { IsEntry (funs_of (program_tree checked.now.resolved.program.now).decls) entry }
     ensures measured { IfOk result (IsMeasured (resolved_setting checked.now.resolved) entry) }
     ensures tried { (a : Measured) → IsMeasured (resolved_setting checked.now.resolved) entry a → Tries (limit_rules a) result }
+    ensures within { OnOk result (EntryWithin (resolved_setting checked.now.resolved) DEPTH_LIMIT entry.fun entry.bound) }
     ensures one { HasOneMeasure (resolved_setting checked.now.resolved) entry }
 {
     let found = measure_entry(alloc, checked, entry)?;

@@ -1,5 +1,5 @@
 //! The pairs of a function and the number of its bound, as numbers. A pair calls only pairs of smaller numbers.
-ghost use Rattle.std.specs.Prelude.{◌≡◌, ◌≤◌, ◌<◌, ◌^◌, ℕ, Some, option_map, IfSome};
+ghost use Rattle.std.specs.Prelude.{◌≡◌, ◌≤◌, ◌<◌, ◌^◌, ◌/◌, ◌%◌, ℕ, Some, option_map, IfSome};
 ghost use Rattle.std.specs.Option.{IfNone};
 ghost use Rattle.tw_syntax.specs.Names.{name_tree};
 ghost use Rattle.tw_syntax.specs.Terms.{bound_tree};
@@ -44,12 +44,24 @@ fn callee_bound(own: u8, bound: &Option<Bound<'_>>) -> Option<u8>
     }
 }
 
+/// The numbers of one function: one for each number that a bound can have.
+const PAIRS_OF_FUNCTION: usize = 256;
+
+/// The function of a pair, and the number of its bound.
+pub fn pair_of(pair: usize) -> (usize, u8)
+    ensures fun { result.0 ≡ pair / 256 }
+    ensures own { result.1 ≡ pair % 256 }
+{
+    (pair / PAIRS_OF_FUNCTION, (pair % PAIRS_OF_FUNCTION) as u8)
+}
+
 /// The number of a pair. `None` if it is above the greatest `usize`.
 pub fn pair_number(fun: usize, own: u8) -> Option<usize>
     ensures some { IfSome result (λ pair. pair ≡ pair_number fun own) }
     ensures none { IfNone result (2 ^ 64 ≤ pair_number fun own) }
 {
-    fun.checked_mul(256)?.checked_add(usize::from(own))
+    fun.checked_mul(PAIRS_OF_FUNCTION)?
+        .checked_add(usize::from(own))
 }
 
 /// The number of the pair that a call runs, in a function whose own bound has the number `own`. `None` if no body runs.

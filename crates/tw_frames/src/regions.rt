@@ -23,8 +23,7 @@ pub fn layout(widths: Widths, block: u32, args: u32, out: u32, scratch: u32) -> 
     requires within { args + out + scratch ≤ 2 ^ 31 }
     ensures { result ≡ regions widths block args out scratch }
 {
-    let blocks = 2u32.pow(widths.addr) - 1;
-    let memory = widths.addr + blocks * block;
+    let memory = widths.addr + widths.block_count() * block;
     WireLayout {
         args: memory,
         out: memory + args,

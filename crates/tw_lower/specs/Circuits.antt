@@ -1,10 +1,18 @@
 -- The gates of statements on the wires of the layout.
-use Rattle.std.specs.Prelude.{◌≡◌, ℕ, ◌+◌, List, [], ◌∷◌, ◌++◌, codes, refl}
+use Rattle.std.specs.Prelude.{◌≡◌, ℕ, ◌+◌, true, List, [], ◌∷◌, ◌++◌, Option, Some, None, option_map, option_and_then, codes, refl}
+use Rattle.std.specs.Option.{option_zip}
+use Rattle.tw_syntax.specs.declared.term.OpKind.TheVariants as op
+use Rattle.tw_syntax.specs.Examples.{place}
+use Rattle.tw_syntax.specs.Programs.{FunTree}
+use Rattle.tw_syntax.specs.Statements.{StmtTree, Nothing, Then, LetStmt}
+use Rattle.tw_syntax.specs.Terms.{AtomTree, PlaceAtom, ExprTree, OpExpr, ExprRhs}
+use Rattle.tw_syntax.specs.Types.{BoolType}
 use Rattle.tw_gate.specs.Gates.{PlainGate, X, inverse}
-use Rattle.tw_types.specs.Types.{Widths, Target}
+use Rattle.tw_resolve.specs.Setting.{Setting}
 use Rattle.tw_state.specs.States.{Name}
-use Rattle.tw_state.specs.Programs.{Atom, Var, And, Expr, Binary, Stmt, Skip, Then, Let, Function}
-use Rattle.tw_state.specs.Examples.{one_bit, truth, conjunction, main}
+use Rattle.tw_state.specs.Derivations.{named}
+use Rattle.tw_state.specs.Examples.{main, main_of, main_setting, setting_at}
+use Rattle.tw_frames.specs.declared.regions.WireLayout.{WireLayout}
 use Rattle.tw_frames.specs.Layout.{layout_of, wire_of}
 
 -- the setup, the work, and the setup uncomputed
@@ -20,48 +28,61 @@ abbrev pub and_gates : (left right out scratch : ℕ) → List PlainGate
 and_gates left right out scratch =
     conjugated (load left scratch ++ load right (scratch + 1)) (X (scratch ∷ (scratch + 1) ∷ []) out ∷ [])
 
--- the wire of an operand
-abbrev pub atom_wire : (Name → ℕ) → Atom → ℕ
-atom_wire wire (Var name) = wire name
+-- the wire of a variable without steps. Other operands are not compiled yet
+abbrev pub unstepped_wire : (Name → ℕ) → Name → List ℕ → Option ℕ
+unstepped_wire wire name [] = Some (wire name)
+unstepped_wire wire name (step ∷ steps) = None
 
--- the gates that flip out by the value of an expression
-abbrev pub expr_gates : (Name → ℕ) → ℕ → Expr → ℕ → List PlainGate
-expr_gates wire scratch (Binary And left right) out = and_gates (atom_wire wire left) (atom_wire wire right) out scratch
+abbrev pub atom_wire : (Name → ℕ) → AtomTree → Option ℕ
+atom_wire wire (PlaceAtom at path) = unstepped_wire wire path.root.text path.steps
+atom_wire wire other = None
 
--- the gates of a statement
-abbrev pub stmt_gates : (Name → ℕ) → ℕ → Stmt → List PlainGate
-stmt_gates wire scratch Skip = []
-stmt_gates wire scratch (Then first rest) = stmt_gates wire scratch first ++ stmt_gates wire scratch rest
-stmt_gates wire scratch (Let name expr) = expr_gates wire scratch expr (wire name)
+-- the gates that flip out by the value of an expression. Expressions other than `&&` are not compiled yet
+abbrev pub expr_gates : (Name → ℕ) → ℕ → ExprTree → ℕ → Option (List PlainGate)
+expr_gates wire scratch (OpExpr at op.And left right) out =
+    option_map (λ (wires : ℕ × ℕ). and_gates wires.0 wires.1 out scratch) (option_zip (atom_wire wire left) (atom_wire wire right))
+expr_gates wire scratch other out = None
 
--- the gates of a function
-abbrev pub function_gates : Widths → List Target → Function → List PlainGate
-function_gates widths targets function =
-    stmt_gates (wire_of widths targets function) (layout_of widths targets function).scratch function.body
+-- the gates of a statement. Statements other than forward `let` are not compiled yet
+abbrev pub stmt_gates : (Name → ℕ) → ℕ → StmtTree → Option (List PlainGate)
+stmt_gates wire scratch Nothing = Some []
+stmt_gates wire scratch (Then first rest) =
+    option_map (λ (gates : List PlainGate × List PlainGate). gates.0 ++ gates.1) (option_zip (stmt_gates wire scratch first) (stmt_gates wire scratch rest))
+stmt_gates wire scratch (LetStmt at true target (ExprRhs expr)) = expr_gates wire scratch expr (wire target.text)
+stmt_gates wire scratch other = None
+
+-- the gates of a function; none if its body is not compiled yet
+abbrev pub function_gates : Setting → FunTree → Option (List PlainGate)
+function_gates setting fun =
+    option_and_then (λ (layout : WireLayout). stmt_gates (wire_of setting fun) layout.scratch fun.body) (layout_of setting fun)
 
 -- `let c <- a && b;` on the parameters a and b: cx 2 5; cx 3 6; ccx 5 6 4; cx 3 6; cx 2 5
 pub gates_of_main :
-    function_gates one_bit [] main
-    ≡ X (2 ∷ []) 5 ∷ X (3 ∷ []) 6 ∷ X (5 ∷ 6 ∷ []) 4 ∷ X (3 ∷ []) 6 ∷ X (2 ∷ []) 5 ∷ []
+    function_gates main_setting main
+    ≡ Some (X (2 ∷ []) 5 ∷ X (3 ∷ []) 6 ∷ X (5 ∷ 6 ∷ []) 4 ∷ X (3 ∷ []) 6 ∷ X (2 ∷ []) 5 ∷ [])
 gates_of_main = refl
 
 -- `let c <- b && a;` on the same: cx 3 5; cx 2 6; ccx 5 6 4; cx 2 6; cx 3 5
 pub gates_exchanged :
-    function_gates one_bit [] (conjunction (truth (codes "a") ∷ truth (codes "b") ∷ []) (codes "b") (codes "a"))
-    ≡ X (3 ∷ []) 5 ∷ X (2 ∷ []) 6 ∷ X (5 ∷ 6 ∷ []) 4 ∷ X (2 ∷ []) 6 ∷ X (3 ∷ []) 5 ∷ []
+    function_gates main_setting (main_of (codes "b") (codes "a"))
+    ≡ Some (X (3 ∷ []) 5 ∷ X (2 ∷ []) 6 ∷ X (5 ∷ 6 ∷ []) 4 ∷ X (2 ∷ []) 6 ∷ X (3 ∷ []) 5 ∷ [])
 gates_exchanged = refl
 
--- `let c <- a && a;` on the parameter a: cx 2 4; cx 2 5; ccx 4 5 3; cx 2 5; cx 2 4, on 6 wires
+-- `let c <- a && a;` on the parameter a
+abbrev one_parameter : FunTree
+one_parameter = record (main_of (codes "a") (codes "a")) { params = record { name = named (codes "a") 10; ty = BoolType (place 1 13) } ∷ [] }
+
+-- cx 2 4; cx 2 5; ccx 4 5 3; cx 2 5; cx 2 4, on 6 wires
 pub gates_of_one_parameter :
-    function_gates one_bit [] (conjunction (truth (codes "a") ∷ []) (codes "a") (codes "a"))
-    ≡ X (2 ∷ []) 4 ∷ X (2 ∷ []) 5 ∷ X (4 ∷ 5 ∷ []) 3 ∷ X (2 ∷ []) 5 ∷ X (2 ∷ []) 4 ∷ []
+    function_gates main_setting one_parameter
+    ≡ Some (X (2 ∷ []) 4 ∷ X (2 ∷ []) 5 ∷ X (4 ∷ 5 ∷ []) 3 ∷ X (2 ∷ []) 5 ∷ X (2 ∷ []) 4 ∷ [])
 gates_of_one_parameter = refl
 
-pub wires_of_one_parameter : (layout_of one_bit [] (conjunction (truth (codes "a") ∷ []) (codes "a") (codes "a"))).wires ≡ 6
+pub wires_of_one_parameter : option_map (λ (layout : WireLayout). layout.wires) (layout_of main_setting one_parameter) ≡ Some 6
 wires_of_one_parameter = refl
 
 -- with addresses of 8 bits: cx 2048 2051; cx 2049 2052; ccx 2051 2052 2050; cx 2049 2052; cx 2048 2051
 pub wide_gates_of_main :
-    function_gates (record { word = 32; addr = 8 }) [] main
-    ≡ X (2048 ∷ []) 2051 ∷ X (2049 ∷ []) 2052 ∷ X (2051 ∷ 2052 ∷ []) 2050 ∷ X (2049 ∷ []) 2052 ∷ X (2048 ∷ []) 2051 ∷ []
+    function_gates (setting_at (record { word = 32; addr = 8 })) main
+    ≡ Some (X (2048 ∷ []) 2051 ∷ X (2049 ∷ []) 2052 ∷ X (2051 ∷ 2052 ∷ []) 2050 ∷ X (2049 ∷ []) 2052 ∷ X (2048 ∷ []) 2051 ∷ [])
 wide_gates_of_main = refl

@@ -20,8 +20,8 @@ use Rattle.tw_check.specs.Reverse.{reverse_of}
 use Rattle.tw_check.specs.Right.{IsOperand, Assigns}
 use Rattle.tw_check.proofs.NameSets.{with_name-same, with_name-other}
 use Rattle.tw_check.proofs.Undoing.{right-reverse_of}
-use Rattle.tw_state.specs.States.{Name, State, IsWellFormed, with_value}
-use Rattle.tw_state.specs.Steps.{fun_types, Activation, activation_of, live_names, Adds, running_bound, callee_bound, param_links, links, seen_by}
+use Rattle.tw_state.specs.States.{Name, State, IsWellFormed, with_value, without}
+use Rattle.tw_state.specs.Steps.{fun_types, Activation, activation_of, live_names, Adds, running_bound, callee_bound, param_links, links, seen_by, put_back}
 use Rattle.tw_state.specs.Semantics.{Runs, RunsCall, RunsUncall, RunsCallZero, RunsUncallZero}
 use Rattle.tw_state.specs.Stuck.{Unmet, StuckCall, StuckUncall, StuckUncallZero}
 use Rattle.tw_state.specs.Results.{IsTypedIn}
@@ -30,7 +30,7 @@ use Rattle.tw_state.proofs.Calls.{AreDifferent, inner}
 use Rattle.tw_state.proofs.TypedTrees.{ArgsFit, CallFits, reverse_fits, FunFits, FunsFit}
 use Rattle.tw_state.proofs.TypedRuns.{typed_seen, links_fit}
 use Rattle.tw_state.proofs.LiveRuns.{outer_params, seen_at_start, seen_at_end, operands_live, FunsRight, lives}
-use Rattle.tw_state.proofs.Deciding.{by_value, adds_without, without, put_back, put_back_seen, put_back_others}
+use Rattle.tw_state.proofs.Deciding.{by_value, adds_without, put_back_seen, put_back_others}
 use Rattle.tw_state.proofs.Ending.{Ends, HasEnd, IsStuck, live_value, dead_value}
 
 -- a call goes to an earlier function, or to the same one with a smaller bound

@@ -17,9 +17,9 @@ use Rattle.tw_check.specs.Names.{Names}
 use Rattle.tw_check.specs.Liveness.{live_after, names_of}
 use Rattle.tw_check.proofs.NameSets.{on_or_off, names_differ}
 use Rattle.tw_check.proofs.Mentions.{others_stay}
-use Rattle.tw_state.specs.States.{Name, Store, State, with_value}
+use Rattle.tw_state.specs.States.{Name, Store, State, with_value, without}
 use Rattle.tw_state.specs.Evaluation.{same_value}
-use Rattle.tw_state.specs.Steps.{live_names, Adds, IsPadded, Pads, seen, seen_by, KeepsOthers}
+use Rattle.tw_state.specs.Steps.{live_names, Adds, IsPadded, Pads, seen, seen_by, KeepsOthers, put_back}
 use Rattle.tw_state.specs.Stuck.{LacksPad}
 use Rattle.tw_state.specs.Results.{Fits}
 use Rattle.tw_state.proofs.Basics.{some_value, by_test, by_option, same_name, name_test, contradiction, not_both}
@@ -97,10 +97,6 @@ pub by_value : {P : Type 0} (x y : Value) → (x ≡ y → P) → (x ≢ y → P
 by_value x y same differ =
     by_test (same_value x y) (λ test. same ((same_value-Decides x y).0 test))
     (λ test. differ (λ is. contradiction ((same_value-Decides x y).1 is) test))
-
--- the store without a name
-abbrev pub without : Store → Name → Store
-without store name other = if bytes_eq name other then None else store other
 
 pub adds_without : (state : State) (name : Name) (value : Value) → state.store name ≡ Some value → Adds name value (record state { store = without state.store name }) state
 adds_without state name value is = record { unused = rw (name_test name) refl; after = ap (λ (s : Store). record state { store = s }) (fun_ext each) }
@@ -225,11 +221,6 @@ module _ (setting : Setting) (types : Types) (stmts : StmtTree) (old : State) (f
     where
       lives : live_names (padded_store types old.store after_stmts) ≡ after_stmts
       lives = fun_ext (λ name. live_at (types name) (old.store name) (after_stmts name) (becomes_typed setting types true stmts fits (live_names old.store) name))
-
--- the caller's store after a call, from that of the callee
-abbrev pub put_back : List (Name × Name) → Store → Store → Store
-put_back [] callee old name = old name
-put_back (link ∷ more) callee old name = if bytes_eq link.1 name then callee link.0 else put_back more callee old name
 
 put_others : (shared : List (Name × Name)) (callee old : Store) (name : Name) → is_one_of name (outer shared) ≡ false → put_back shared callee old name ≡ old name
 put_others [] callee old name none = refl

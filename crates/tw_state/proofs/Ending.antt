@@ -15,7 +15,7 @@ use Rattle.tw_check.specs.Names.{Names}
 use Rattle.tw_check.specs.Liveness.{expr_names, live_after}
 use Rattle.tw_check.specs.Right.{overlap}
 use Rattle.tw_check.specs.Reverse.{reverse_of}
-use Rattle.tw_state.specs.States.{Name, Cell, Free, Live, Store, State, with_value, IsWellFormed, Links, cell_at, with_cell}
+use Rattle.tw_state.specs.States.{Name, Cell, Free, Live, Store, State, with_value, without, IsWellFormed, Links, cell_at, with_cell}
 use Rattle.tw_state.specs.Parts.{part_of, value_at, with_value_at}
 use Rattle.tw_state.specs.Steps.{Activation, live_names, Adds, Takes}
 use Rattle.tw_state.specs.Semantics.{Runs, RunsThen, RunsBlock, RunsLet, RunsUnlet, RunsSwap, RunsMemSwapNull, RunsMemSwap, RunsIf, RunsIfElse, RunsIfNot, RunsWith, RunsAlloc, RunsAllocNone, RunsFree, RunsFreeNone}
@@ -28,7 +28,7 @@ use Rattle.tw_state.proofs.FreeList.{by_block}
 use Rattle.tw_state.proofs.TypedTrees.{ExprFits, AllocFits, StmtFits}
 use Rattle.tw_state.proofs.TypedValues.{StoreFits, path_typed, expr_evaluates}
 use Rattle.tw_state.proofs.TypedRuns.{typed_removed, added_typed}
-use Rattle.tw_state.proofs.Deciding.{by_value, adds_without, without, Padding, CanPad, CannotPad, padding}
+use Rattle.tw_state.proofs.Deciding.{by_value, adds_without, Padding, CanPad, CannotPad, padding}
 
 -- from this state the statement has a result, or is stuck
 pub data Ends (setting : Setting) (act : Activation) (s : StmtTree) (x : State) : Type 0 where

@@ -70,16 +70,16 @@ unfolding function_of
 function_of-number widths program types typed k fun found = refl
 
 -- whether names are different
-all_different : List Name → Bool
+pub all_different : List Name → Bool
 all_different [] = true
 all_different (name ∷ names) = not (is_one_of name names) && all_different names
 
-tests_different : (names : List Name) → AreDifferent names → all_different names ≡ true
+pub tests_different : (names : List Name) → AreDifferent names → all_different names ≡ true
 unfolding all_different
 tests_different [] different = refl
 tests_different (name ∷ names) different = rw (different.0, tests_different names different.1) refl
 
-different_tested : (names : List Name) → all_different names ≡ true → AreDifferent names
+pub different_tested : (names : List Name) → all_different names ≡ true → AreDifferent names
 unfolding all_different
 different_tested [] test = tt
 different_tested (name ∷ names) test =
@@ -87,13 +87,13 @@ different_tested (name ∷ names) test =
     (not-true (is_one_of name names) parts.0, different_tested names parts.1)
 
 -- names with another one at the end
-more_different : (names : List Name) (last : Name) → is_one_of last names ≡ false → AreDifferent names → AreDifferent (names ++ last ∷ [])
+pub more_different : (names : List Name) (last : Name) → is_one_of last names ≡ false → AreDifferent names → AreDifferent (names ++ last ∷ [])
 more_different [] last new different = (refl, tt)
 more_different (name ∷ names) last new different =
     let parts = or_parts (bytes_eq last name) (is_one_of last names) new in
     (is_one_of-append name names (last ∷ []) ∙ rw (different.0, bytes_eq-sym name last, parts.0) refl, more_different names last parts.1 different.1)
 
-names_different : (side : Side) (fun : FunTree) → AreDifferent (fun.returned.text ∷ param_names fun) → AreDifferent (names_at side fun)
+pub names_different : (side : Side) (fun : FunTree) → AreDifferent (fun.returned.text ∷ param_names fun) → AreDifferent (names_at side fun)
 names_different side.Start fun different = different.1
 names_different side.End fun different = more_different (param_names fun) fun.returned.text different.0 different.1
 

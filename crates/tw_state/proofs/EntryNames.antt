@@ -88,3 +88,12 @@ tests_stop so step decides fails = (λ k. cc, λ all. sym fails ∙ decides.1 (s
 -- and goes on while they hold
 pub tests_go_on : {All Left Here Rest : Type 0} {test : Bool} → All ↔ Left → Left ↔ (Here × Rest) → Decides test Here → test ≡ true → All ↔ Rest
 tests_go_on so step decides holds = (λ all. (step.0 (so.0 all)).1, λ rest. so.1 (step.1 (decides.0 holds, rest)))
+
+-- the value at a place has the type of the name there
+pub value_fits : (widths : Widths) (types : Types) (names : List Name) (values : List Value) (place : ℕ) (name : Name) (value : Value) → slice_get names place ≡ Some name → slice_get values place ≡ Some value
+    → HaveTypes widths types names values → Fits widths (types name) (Some value)
+value_fits widths types [] values place name value at_name at_value typed = absurd (none-some name at_name)
+value_fits widths types (first ∷ names) [] place name value at_name at_value typed = absurd (none-some value at_value)
+value_fits widths types (first ∷ names) (v ∷ values) zero name value at_name at_value typed =
+    subst₂ (λ n x. Fits widths (types n) (Some x)) (some_value at_name) (some_value at_value) typed.0
+value_fits widths types (first ∷ names) (v ∷ values) (suc place) name value at_name at_value typed = value_fits widths types names values place name value at_name at_value typed.1

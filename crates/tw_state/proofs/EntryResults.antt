@@ -14,7 +14,7 @@ use Rattle.tw_check.specs.Reverse.{reverse_of}
 use Rattle.tw_check.proofs.NameSets.{with_name-same}
 use Rattle.tw_check.proofs.Reversal.{reverse_of-reverse_of}
 use Rattle.tw_check.proofs.Undoing.{right-reverse_of}
-use Rattle.tw_state.specs.States.{Name, State, IsWellFormed, with_value}
+use Rattle.tw_state.specs.States.{Name, State, IsWellFormed, with_value, without}
 use Rattle.tw_state.specs.Evaluation.{zero_of}
 use Rattle.tw_state.specs.Steps.{fun_types, activation_of, Adds, running_bound}
 use Rattle.tw_state.specs.Semantics.{Runs}
@@ -29,7 +29,7 @@ use Rattle.tw_state.proofs.TypedTrees.{FunFits, FunsFit, funs_different, reverse
 use Rattle.tw_state.proofs.TypedRuns.{typed_after, typed_added, typed_removed}
 use Rattle.tw_state.proofs.LiveRuns.{FunsRight, live_added, live_removed, lives}
 use Rattle.tw_state.proofs.Sticking.{never_both, AreSame, one_reason}
-use Rattle.tw_state.proofs.Deciding.{by_value, adds_without, without}
+use Rattle.tw_state.proofs.Deciding.{by_value, adds_without}
 use Rattle.tw_state.proofs.Ending.{Ends, HasEnd, IsStuck, live_value, dead_value}
 use Rattle.tw_state.proofs.CallEnds.{FunsDescend}
 use Rattle.tw_state.proofs.Total.{bodies_end}

@@ -12,9 +12,9 @@ use Rattle.tw_types.specs.Values.{Value, HasType, value_bits}
 use Rattle.tw_types.proofs.Encoding.{append-injective, address_below, number_bits-injective, value_bits-injective}
 use Rattle.tw_types.proofs.Lengths.{length-value_bits}
 use Rattle.tw_state.specs.States.{Name, Cell, Free, Live, Store, State, cell_at, Links, IsWellFormed}
-use Rattle.tw_state.specs.Programs.{Variable}
-use Rattle.tw_state.specs.Typing.{IsCell, HasVariable, IsTyped}
-use Rattle.tw_state.specs.Encoding.{cell_bits, variable_bits, encoded, CellsAgree, IsInjective}
+use Rattle.tw_state.specs.TypedLists.{IsCell}
+use Rattle.tw_state.specs.Encoding.{cell_bits, CellsAgree}
+use Rattle.tw_state.proofs.Variables.{Variable, HasVariable, IsTyped, variable_bits, encoded, IsInjective}
 use Rattle.tw_state.proofs.Cells.{cell_at_within}
 use Rattle.tw_state.proofs.Chain.{counted}
 use Rattle.tw_state.proofs.Sizes.{length-cell_bits, length-variable_bits}

@@ -9,12 +9,12 @@ use Rattle.tw_types.specs.Values.{value_bits}
 use Rattle.tw_bits.proofs.Writings.{length-padded}
 use Rattle.tw_types.proofs.Lengths.{length-value_bits, addr-le-block_size}
 use Rattle.tw_state.specs.States.{Cell, Free, Live, Store, State}
-use Rattle.tw_state.specs.Programs.{Variable}
-use Rattle.tw_state.specs.Typing.{IsCell, HasVariable, IsTyped}
-use Rattle.tw_state.specs.Encoding.{cell_bits, memory_bits, variable_bits}
+use Rattle.tw_state.specs.TypedLists.{IsCell}
+use Rattle.tw_state.specs.Encoding.{cell_bits, memory_bits}
+use Rattle.tw_state.proofs.Variables.{Variable, HasVariable, variable_bits}
 
 -- a target's type fits into a block
-size-le-block_size : (widths : Widths) (targets : List Target) (place : ℕ) (ty : Ty) → ty_at targets place ≡ Some ty → size widths ty ≤ block_size widths targets
+pub size-le-block_size : (widths : Widths) (targets : List Target) (place : ℕ) (ty : Ty) → ty_at targets place ≡ Some ty → size widths ty ≤ block_size widths targets
 size-le-block_size widths [] place ty known = cc
 size-le-block_size widths (target ∷ targets) zero ty known = let same : target.ty ≡ ty = cc in rw (← same) (omega arith)
 size-le-block_size widths (target ∷ targets) (suc place) ty known =
@@ -35,10 +35,10 @@ length-cells_bits widths targets [] all = omega arith
 length-cells_bits widths targets (cell ∷ cells) all =
     rw (length-append, length-cell_bits widths targets cell all.0, length-cells_bits widths targets cells all.1, suc-mul) (omega arith)
 
--- the head and the cells of a typed state have their whole length
-pub length-memory_bits : {widths : Widths} {targets : List Target} {variables : List Variable} {state : State} → IsTyped widths targets variables state → length (memory_bits widths targets state) ≡ widths.addr + block_count widths * block_size widths targets
-length-memory_bits {widths} {targets} {state = state} typed =
-    rw (length-append, length-number_bits widths.addr state.head, length-cells_bits widths targets state.cells typed.each_cell, typed.all_blocks)
+-- the head and the cells of the program, one for each block, have their whole length
+pub length-memory_bits : (widths : Widths) (targets : List Target) (state : State) → AllByRecursion (IsCell widths targets) state.cells → length state.cells ≡ block_count widths → length (memory_bits widths targets state) ≡ widths.addr + block_count widths * block_size widths targets
+length-memory_bits widths targets state all counted =
+    rw (length-append, length-number_bits widths.addr state.head, length-cells_bits widths targets state.cells all, counted)
 
 -- a variable that a store has fills as many bits as its type
 pub length-variable_bits : (widths : Widths) (store : Store) (variable : Variable) → HasVariable widths store variable → length (variable_bits widths store variable) ≡ size widths variable.ty

@@ -31,7 +31,7 @@ use Rattle.tw_state.proofs.Basics.{some_value, by_option, name_test}
 use Rattle.tw_state.proofs.Blocks.{get_all}
 use Rattle.tw_state.proofs.Calls.{AreDifferent}
 use Rattle.tw_state.proofs.Known.{known, known_denoted}
-use Rattle.tw_state.proofs.TypedTrees.{ParamFits, FunFits}
+use Rattle.tw_state.proofs.TypedTrees.{ParamFits, FunFits, FunsFit}
 use Rattle.tw_state.proofs.CallEnds.{StmtDescends}
 use Rattle.tw_state.proofs.SoundExpressions.{TypesKnown, Grows, is_there, fits_equal, resolved_if_kept}
 use Rattle.tw_state.proofs.SoundStatements.{HeadKnown, AreKnown, with_known, grows_after, later, stmt_sound}
@@ -317,7 +317,7 @@ module _ (widths : Widths) (program : ProgramTree) (types : Name → Option Ty) 
   numbered : AllByRecursion (IsNumbered (targets_of program)) (flat_map decl_targets program.decls)
   numbered = all_numbered (flat_map decl_targets program.decls) []
 
-  targets_each : AllByRecursion (IsResolved (scope_of program)) (targets_of program)
+  pub targets_each : AllByRecursion (IsResolved (scope_of program)) (targets_of program)
   targets_each = kept_resolved checked_setting (flat_map decl_targets program.decls) [] tt (decls_resolved checked_setting program.decls 0 aliases_each funs_each numbered)
 
   types_are_known : TypesKnown checked_setting
@@ -371,10 +371,15 @@ module _ (widths : Widths) (program : ProgramTree) (types : Name → Option Ty) 
         descends = body.descends;
       }
 
+  -- each function of a well-typed program has its types
+  pub funs_fit : FunsFit checked_setting
+  funs_fit name fun named =
+      let at = function_at checked_setting name fun named in (fun_sound name at.0 fun named at.2).fit
+
   -- a well-typed program whose functions are right is sound
   pub sound : AllByRecursion IsRight (funs_of program.decls) → IsSound checked_setting
   sound right = record {
-    fit = λ name fun named. let at = function_at checked_setting name fun named in (fun_sound name at.0 fun named at.2).fit;
+    fit = funs_fit;
     right = λ name fun named. let at = function_at checked_setting name fun named in get_all IsRight (funs_of program.decls) at.0 fun right at.2;
     descend = λ name k fun number named.
         (fun_sound name k fun named (ap (option_and_then (slice_get (funs_of program.decls))) (sym number) ∙ named)).descends;

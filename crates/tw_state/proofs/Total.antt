@@ -15,7 +15,7 @@ use Rattle.tw_check.proofs.NameSets.{with_name-same, with_name-other}
 use Rattle.tw_check.proofs.Ends.{right_ends, held_stays}
 use Rattle.tw_check.proofs.Reversal.{live_after-reverse_of}
 use Rattle.tw_check.proofs.Undoing.{right-reverse_of}
-use Rattle.tw_state.specs.States.{State, IsWellFormed}
+use Rattle.tw_state.specs.States.{State, IsWellFormed, without}
 use Rattle.tw_state.specs.Parts.{part_of}
 use Rattle.tw_state.specs.Steps.{Activation, activation_of, live_names, links, seen_by}
 use Rattle.tw_state.specs.Semantics.{RunsNothing, RunsSkip}
@@ -25,7 +25,6 @@ use Rattle.tw_state.proofs.TypedTrees.{StmtFits, reverse_fits, FunsFit}
 use Rattle.tw_state.proofs.TypedRuns.{typed_after}
 use Rattle.tw_state.proofs.LiveRuns.{operands_live, FunsRight, lives}
 use Rattle.tw_state.proofs.KeptRuns.{kept}
-use Rattle.tw_state.proofs.Deciding.{without}
 use Rattle.tw_state.proofs.Ending.{Ends, HasEnd, live_value, dead_value, then_ends, block_ends, with_ends, taken_ends, else_ends, cond_ends, let_ends, unlet_ends, swap_ends, memory_ends, alloc_ends, free_ends, pad_ends}
 use Rattle.tw_state.proofs.CallEnds.{Below, Earlier, Smaller, below, RhsDescends, StmtDescends, FunsDescend, BodiesEnd, callee_typed, call_ends, uncall_ends}
 

@@ -25,7 +25,7 @@ use Rattle.tw_state.specs.FromCode.{ListedState, names_at, live_at}
 use Rattle.tw_state.specs.Listed.{store_of, HaveTypes}
 use Rattle.tw_state.specs.Results.{Fits, IsCell}
 use Rattle.tw_state.specs.TypedLists.{IsTypedMemory, IsTypedOn, IsTypedEntry}
-use Rattle.tw_state.specs.Typing as listed
+use Rattle.tw_state.specs.TypedLists as listed
 use Rattle.tw_state.proofs.Basics.{some_value, same_some, by_test, same_name, name_test, contradiction}
 use Rattle.tw_state.proofs.Calls.{AreDifferent}
 use Rattle.tw_state.proofs.EntryFunctions.{entry_names_different}
@@ -138,6 +138,10 @@ module _ (checked : Checked) (number : ℕ) (side : Side) (listed : ListedState)
 
   pub entry_counted : IsTypedEntry own number side listed → length listed.values ≡ length (names_at side fun)
   entry_counted entry = (of_fun entry).counted
+
+  -- and its values have the types of the names
+  pub entry_values : (targets : List Target) → ∥ AreTargets own targets ∥₁ → IsTypedEntry own number side listed → HaveTypes own.widths (fun_types own fun) (names_at side fun) listed.values
+  entry_values targets are entry = values_if_typed own targets are side fun listed (entry_names_different checked side number fun found) (of_fun entry)
 
   module _ (targets : List Target) (are : ∥ AreTargets own targets ∥₁) where
     pub entry_memory : IsTypedEntry own number side listed → IsTypedMemory own.widths targets listed

@@ -1,12 +1,10 @@
--- Worked examples that need more than evaluation: a well-formed state, the result of a function, and renamed blocks.
-use Rattle.std.proofs.Common.{◌≡◌, ℕ, zero, suc, ◌≤◌, ◌==◌, true, List, [], ◌∷◌, count_by, Some, refl, arith, codes}
-use Rattle.tw_types.specs.Values.{Number, Truth, Address, PairValue}
+-- Worked examples that need more than evaluation: a well-formed state, and renamed blocks.
+use Rattle.std.proofs.Common.{◌≡◌, ℕ, zero, suc, ◌≤◌, ◌==◌, List, [], ◌∷◌, count_by, Some, refl, arith, codes}
+use Rattle.tw_types.specs.Values.{Number, Address, PairValue}
 use Rattle.tw_state.specs.States.{Free, Live, Links, IsWellFormed, cell_at, empty}
-use Rattle.tw_state.specs.Typing.{Holds, HasResult}
 use Rattle.tw_state.specs.Renaming.{Permutation, renamed_value, renamed}
-use Rattle.tw_state.specs.Examples.{one_bit, main, operands, start, end}
+use Rattle.tw_state.specs.Examples.{start}
 use Rattle.tw_state.specs.Encoding.{one_live}
-use Rattle.tw_state.proofs.Stores.{bytes_eq-different}
 
 -- the one free cell is passed once
 pub start_is_well_formed : IsWellFormed start
@@ -23,30 +21,6 @@ lost_cell_is_not_well_formed formed = lost formed.chain formed.links (formed.onc
   lost [] links once = absurd (omega arith)
   lost (zero ∷ chain) links once = cc links.1.1
   lost (suc i ∷ chain) links once = absurd (omega (arith, links.0))
-
--- the parameters and no other name
-start_holds : Holds one_bit main.parameters (operands true true)
-start_holds = record {
-  each = ((Truth true, refl, tt), ((Truth true, refl, tt), tt));
-  no_other = λ name apart. rw (bytes_eq-different (codes "b") name apart.1.0, bytes_eq-different (codes "a") name apart.0);
-}
-
--- the function takes `a true; b true` to the same with `c true`
-pub main_has_result : HasResult one_bit [] main start end
-main_has_result = record {
-  well_formed = start_is_well_formed;
-  typed_at_start = record { head_within = omega arith; all_blocks = refl; each_cell = (omega arith, tt); holds = start_holds };
-  runs = (end, record { value = Truth true; evaluates = refl; not_live = refl; after = refl }, refl);
-  typed_at_end = record {
-    head_within = omega arith;
-    all_blocks = refl;
-    each_cell = (omega arith, tt);
-    holds = record {
-      each = ((Truth true, refl, tt), ((Truth true, refl, tt), ((Truth true, refl, tt), tt)));
-      no_other = λ name apart. rw (bytes_eq-different (codes "c") name apart.1.1.0) (start_holds.no_other name (apart.0, (apart.1.0, tt)));
-    };
-  };
-}
 
 -- 1 to 3, 2 to 1 and 3 to 2
 abbrev turn : ℕ → ℕ

@@ -1,14 +1,9 @@
 -- A worked entry: a program that keeps all rules, a state that is typed at its start, and the result.
-use Rattle.std.proofs.Common.{◌≡◌, ◌∙◌, refl, sym, ap, subst, arith, true, false, [], ◌∷◌, Option, None, is_some, bytes_eq, codes}
+use Rattle.std.proofs.Common.{◌≡◌, ◌∙◌, refl, sym, ap, subst, arith, true, false, Option, None, is_some, bytes_eq, codes}
 use Rattle.std.proofs.Math.Path.{fun_ext}
 use Rattle.std.proofs.lemmas.Option.{none-some}
 use Rattle.tw_text.specs.declared.place.Pos.{Pos}
-use Rattle.tw_syntax.specs.declared.term.OpKind.TheVariants as op
-use Rattle.tw_syntax.specs.Examples.{place}
-use Rattle.tw_syntax.specs.Programs.{FunTree, FunDecl, ProgramTree}
-use Rattle.tw_syntax.specs.Statements.{Nothing, Then, LetStmt}
-use Rattle.tw_syntax.specs.Terms.{ExprRhs, OpExpr}
-use Rattle.tw_syntax.specs.Types.{BoolType, NamedType}
+use Rattle.tw_syntax.specs.Types.{NamedType}
 use Rattle.tw_types.specs.Types.{Ty, Boolean}
 use Rattle.tw_types.specs.Values.{Truth}
 use Rattle.tw_resolve.specs.Denotes.{Denotes, DenotesNamed, scope_of}
@@ -22,29 +17,13 @@ use Rattle.tw_state.specs.States.{Name, State}
 use Rattle.tw_state.specs.Steps.{fun_types, live_names, Adds}
 use Rattle.tw_state.specs.Semantics.{RunsThen, RunsLet, RunsNothing}
 use Rattle.tw_state.specs.Results.{Fits, IsTypedAt, RunsBody, HasResult}
-use Rattle.tw_state.specs.Derivations.{named, variable}
-use Rattle.tw_state.specs.Examples.{one_bit, operands, start, end}
+use Rattle.tw_state.specs.Examples.{one_bit, main, program, operands, start, end}
 use Rattle.tw_state.proofs.Basics.{by_test, same_name}
 use Rattle.tw_state.proofs.LiveRuns.{live_added}
 use Rattle.tw_state.proofs.Worked.{start_is_well_formed}
 use Rattle.tw_state.proofs.TypedRuns.{typed_added}
 use Rattle.tw_state.proofs.EntryResults.{IsSound, IsFunction, one_result}
 use Rattle.tw_state.proofs.SoundPrograms.{sound}
-
--- `fun main(a: bool, b: bool) -> bool { let c <- a && b; return c; }`
-abbrev pub main : FunTree
-main = record {
-  name = named (codes "main") 5;
-  bound = None;
-  params = record { name = named (codes "a") 10; ty = BoolType (place 1 13) } ∷ record { name = named (codes "b") 19; ty = BoolType (place 1 22) } ∷ [];
-  result = BoolType (place 1 31);
-  body = Then (LetStmt (place 1 38) true (named (codes "c") 42) (ExprRhs (OpExpr (place 1 47) op.And (variable (codes "a") 47) (variable (codes "b") 52)))) Nothing;
-  return_at = place 1 55;
-  returned = named (codes "c") 62;
-}
-
-abbrev pub program : ProgramTree
-program = record { decls = FunDecl main ∷ [] }
 
 -- it declares no types
 abbrev no_types : Name → Option Ty

@@ -73,7 +73,7 @@ list_length = record {
   returned = named (codes "out") 19 10;
 }
 
-abbrev lists : ProgramTree
+abbrev pub lists : ProgramTree
 lists = record { decls = AliasDecl (record { name = named (codes "list") 1 6; body = PairType (place 1 13) (UintType (place 1 14)) (PtrType (place 1 20) (list 1 24)) }) ∷ FunDecl list_length ∷ [] }
 
 -- in words of 3 bits and addresses of 2

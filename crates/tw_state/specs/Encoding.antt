@@ -1,13 +1,11 @@
--- The encoding of states in bits, and what the bits determine.
-use Rattle.std.specs.Prelude.{◌≡◌, ℕ, Bool, true, false, List, [], ◌∷◌, ◌++◌, unwrap_or, option_map, codes, refl}
+-- The encoding of memory in bits, and what the bits of a state determine.
+use Rattle.std.specs.Prelude.{◌≡◌, Bool, true, false, List, [], ◌∷◌, ◌++◌, codes, refl}
 use Rattle.std.specs.List.{flat_map}
 use Rattle.tw_bits.specs.Numbers.{number_bits}
 use Rattle.tw_bits.specs.Writing.{padded}
 use Rattle.tw_types.specs.Types.{Widths, Word, Boolean, Pointer, PairTy, Target, block_size}
 use Rattle.tw_types.specs.Values.{Number, Truth, Address, PairValue, value_bits}
-use Rattle.tw_state.specs.States.{Cell, Free, Live, Store, State, IsWellFormed, empty, with_value}
-use Rattle.tw_state.specs.Programs.{Variable, Function}
-use Rattle.tw_state.specs.Typing.{IsTyped, variables_at_end}
+use Rattle.tw_state.specs.States.{Cell, Free, Live, State, empty, with_value}
 
 -- a cell in the bits of a block: its link or its value, then zeros
 abbrev pub cell_bits : Widths → List Target → Cell → List Bool
@@ -17,23 +15,6 @@ cell_bits widths targets (Live target value) = padded (block_size widths targets
 -- the head, and each cell in turn
 abbrev pub memory_bits : Widths → List Target → State → List Bool
 memory_bits widths targets state = number_bits widths.addr state.head ++ flat_map (cell_bits widths targets) state.cells
-
--- the bits of a variable; none if it has no value
-abbrev pub variable_bits : Widths → Store → Variable → List Bool
-variable_bits widths store variable = unwrap_or (option_map (value_bits widths) (store variable.name)) []
-
--- a state on this number of wires: its memory, these variables, and zeros on all other wires
-abbrev pub encoded : ℕ → Widths → List Target → List Variable → State → List Bool
-encoded wires widths targets variables state =
-    padded wires (memory_bits widths targets state ++ flat_map (variable_bits widths state.store) variables)
-
--- the encoding at the start of a function: its parameters
-abbrev pub encoded_at_start : ℕ → Widths → List Target → Function → State → List Bool
-encoded_at_start wires widths targets function = encoded wires widths targets function.parameters
-
--- the encoding at its end: its parameters, and its result
-abbrev pub encoded_at_end : ℕ → Widths → List Target → Function → State → List Bool
-encoded_at_end wires widths targets function = encoded wires widths targets (variables_at_end function)
 
 -- two cells are both free with one link, or both live, with one value if they have one target
 abbrev pub CellsAgree : List Cell → List Cell → Type 0
@@ -47,10 +28,6 @@ pub record Agree (state other : State) : Type 0 where
   pub head : state.head ≡ other.head
   pub cells : CellsAgree state.cells other.cells
   pub store : state.store ≡ other.store
-
--- the encoding is injective: typed, well-formed states with equal bits are equal but for the targets of live cells
-abbrev pub IsInjective : ℕ → Widths → List Target → List Variable → Type 0
-IsInjective wires widths targets variables = (state other : State) → IsWellFormed state → IsWellFormed other → IsTyped widths targets variables state → IsTyped widths targets variables other → encoded wires widths targets variables state ≡ encoded wires widths targets variables other → Agree state other
 
 -- words and addresses of two bits
 abbrev pub two_bits : Widths
@@ -75,9 +52,3 @@ one_live = record {
   cells = Live 0 (PairValue (Number 2) (Address 1)) ∷ Free 0 ∷ Free 2 ∷ [];
   store = with_value empty (codes "xs") (Address 1);
 }
-
--- is 11 0110 0000 0100 10 and a zero on 17 wires
-pub one_live_on_17_wires :
-    encoded 17 two_bits list_and_bool (record { name = codes "xs"; ty = Pointer 0 } ∷ []) one_live
-    ≡ true ∷ true ∷ false ∷ true ∷ true ∷ false ∷ false ∷ false ∷ false ∷ false ∷ false ∷ true ∷ false ∷ false ∷ true ∷ false ∷ false ∷ []
-one_live_on_17_wires = refl

@@ -1,31 +1,52 @@
--- Worked examples of states, their semantics and their encoding.
-use Rattle.std.specs.Prelude.{◌≡◌, Bool, true, false, List, [], ◌∷◌, Some, None, codes, refl}
-use Rattle.tw_types.specs.Types.{Widths, Boolean}
+-- A worked program, its states, and the values of its expressions.
+use Rattle.std.specs.Prelude.{◌≡◌, ℕ, Bool, true, false, List, [], ◌∷◌, Some, None, codes, refl}
+use Rattle.tw_syntax.specs.declared.term.OpKind.TheVariants as op
+use Rattle.tw_syntax.specs.Examples.{place}
+use Rattle.tw_syntax.specs.Programs.{FunTree, FunDecl, ProgramTree}
+use Rattle.tw_syntax.specs.Statements.{Nothing, Then, LetStmt}
+use Rattle.tw_syntax.specs.Terms.{ExprTree, OpExpr, ExprRhs}
+use Rattle.tw_syntax.specs.Types.{BoolType}
+use Rattle.tw_types.specs.Types.{Widths}
 use Rattle.tw_types.specs.Values.{Truth}
-use Rattle.tw_state.specs.States.{Name, Free, Store, State, empty, with_value, cell_at}
-use Rattle.tw_state.specs.Programs.{Var, And, Binary, Skip, Then, Let, Variable, Function}
-use Rattle.tw_state.specs.Meaning.{expr_value}
-use Rattle.tw_state.specs.Encoding.{encoded_at_start, encoded_at_end}
+use Rattle.tw_resolve.specs.Programs.{setting_of}
+use Rattle.tw_resolve.specs.Setting.{Setting}
+use Rattle.tw_state.specs.States.{Free, Store, State, empty, with_value, cell_at}
+use Rattle.tw_state.specs.Evaluation.{expr_value}
+use Rattle.tw_state.specs.Derivations.{named, variable}
 
 -- words and addresses of one bit
 abbrev pub one_bit : Widths
 one_bit = record { word = 1; addr = 1 }
 
--- a truth value of this name
-abbrev pub truth : Name → Variable
-truth name = record { name = name; ty = Boolean }
+-- `left && right` from column 47 on
+abbrev pub conjunction : List ℕ → List ℕ → ExprTree
+conjunction left right = OpExpr (place 1 47) op.And (variable left 47) (variable right 52)
 
--- the function of these parameters with the body `let c <- left && right;` and the result `c`
-abbrev pub conjunction : List Variable → Name → Name → Function
-conjunction parameters left right = record {
-  parameters = parameters;
-  result = truth (codes "c");
-  body = Then (Let (codes "c") (Binary And (Var left) (Var right))) Skip;
+-- `fun main(a: bool, b: bool) -> bool { let c <- left && right; return c; }`
+abbrev pub main_of : List ℕ → List ℕ → FunTree
+main_of left right = record {
+  name = named (codes "main") 5;
+  bound = None;
+  params = record { name = named (codes "a") 10; ty = BoolType (place 1 13) } ∷ record { name = named (codes "b") 19; ty = BoolType (place 1 22) } ∷ [];
+  result = BoolType (place 1 31);
+  body = Then (LetStmt (place 1 38) true (named (codes "c") 42) (ExprRhs (conjunction left right))) Nothing;
+  return_at = place 1 55;
+  returned = named (codes "c") 62;
 }
 
 -- `fun main(a: bool, b: bool) -> bool { let c <- a && b; return c; }`
-abbrev pub main : Function
-main = conjunction (truth (codes "a") ∷ truth (codes "b") ∷ []) (codes "a") (codes "b")
+abbrev pub main : FunTree
+main = main_of (codes "a") (codes "b")
+
+abbrev pub program : ProgramTree
+program = record { decls = FunDecl main ∷ [] }
+
+-- the setting of this program, which declares no names of types
+abbrev pub setting_at : Widths → Setting
+setting_at widths = setting_of widths program (λ name. None)
+
+abbrev pub main_setting : Setting
+main_setting = setting_at one_bit
 
 -- the values of a and b
 abbrev pub operands : Bool → Bool → Store
@@ -57,23 +78,11 @@ no_cell_of_null = refl
 pub no_cell_past_the_end : cell_at start.cells 2 ≡ None
 no_cell_past_the_end = refl
 
-pub both_true : expr_value one_bit (operands true true) (Binary And (Var (codes "a")) (Var (codes "b"))) ≡ Some (Truth true)
+pub both_true : expr_value main_setting (operands true true) (conjunction (codes "a") (codes "b")) ≡ Some (Truth true)
 both_true = refl
 
-pub one_false : expr_value one_bit (operands true false) (Binary And (Var (codes "a")) (Var (codes "b"))) ≡ Some (Truth false)
+pub one_false : expr_value main_setting (operands true false) (conjunction (codes "a") (codes "b")) ≡ Some (Truth false)
 one_false = refl
 
-pub no_value_without_operand : expr_value one_bit (operands true true) (Binary And (Var (codes "a")) (Var (codes "d"))) ≡ None
+pub no_value_without_operand : expr_value main_setting (operands true true) (conjunction (codes "a") (codes "d")) ≡ None
 no_value_without_operand = refl
-
--- 1011000
-pub start_on_7_wires : encoded_at_start 7 one_bit [] main start ≡ true ∷ false ∷ true ∷ true ∷ false ∷ false ∷ false ∷ []
-start_on_7_wires = refl
-
--- with b false: 1010000
-pub operands_in_order : encoded_at_start 7 one_bit [] main (record start { store = operands true false }) ≡ true ∷ false ∷ true ∷ false ∷ false ∷ false ∷ false ∷ []
-operands_in_order = refl
-
--- 1011100
-pub end_on_7_wires : encoded_at_end 7 one_bit [] main end ≡ true ∷ false ∷ true ∷ true ∷ true ∷ false ∷ false ∷ []
-end_on_7_wires = refl

@@ -24,6 +24,10 @@ empty = λ name. None
 abbrev pub with_value : Store → Name → Value → Store
 with_value store name value = λ other. if bytes_eq name other then Some value else store other
 
+-- the store with this name removed
+abbrev pub without : Store → Name → Store
+without store name other = if bytes_eq name other then None else store other
+
 -- a state: the address of the first free cell, or 0; the cells of blocks 1, 2 and so on; the values of the names
 pub record State : Type 0 where
   pub head : ℕ

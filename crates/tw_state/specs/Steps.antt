@@ -128,6 +128,11 @@ seen (link ∷ more) store name = if bytes_eq link.0 name then store link.1 else
 abbrev pub seen_by : List (Name × Name) → State → State
 seen_by shared state = record state { store = seen shared state.store }
 
+-- the caller's store after a call, from that of the callee: each shared name of the caller has what that of the callee has
+abbrev pub put_back : List (Name × Name) → Store → Store → Store
+put_back [] callee old name = old name
+put_back (link ∷ more) callee old name = if bytes_eq link.1 name then callee link.0 else put_back more callee old name
+
 -- each name of the caller that is not shared keeps its value, or has none on both sides
 abbrev pub KeepsOthers : List (Name × Name) → Store → Store → Type 0
 KeepsOthers shared old new = (name : Name) → is_one_of name (map (λ link. link.1) shared) ≡ false → new name ≡ old name

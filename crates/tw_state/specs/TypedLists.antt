@@ -2,12 +2,19 @@
 use Rattle.std.specs.Prelude.{◌≡◌, ◌≤◌, ℕ, List, Some, length, slice_get}
 use Rattle.std.specs.List.{AllByRecursion}
 use Rattle.tw_syntax.specs.Programs.{FunTree}
-use Rattle.tw_types.specs.Types.{Widths, Target, block_count}
+use Rattle.tw_types.specs.Table.{ty_at}
+use Rattle.tw_types.specs.Types.{Widths, Ty, Target, block_count}
+use Rattle.tw_types.specs.Values.{HasType}
 use Rattle.tw_resolve.specs.Setting.{Setting}
 use Rattle.tw_state.specs.declared.state.Side.{Side}
 use Rattle.tw_state.specs.FromCode.{ListedState, names_at, live_at, state_at}
 use Rattle.tw_state.specs.Results.{IsTypedAt}
-use Rattle.tw_state.specs.Typing.{IsCell}
+use Rattle.tw_state.specs.States.{Cell, Free, Live}
+
+-- a cell by a list of targets: a free one links to a block or to 0; a live one has the number of a target and a value of its type
+abbrev pub IsCell : Widths → List Target → Cell → Type 0
+IsCell widths targets (Free next) = next ≤ block_count widths
+IsCell widths targets (Live target value) = (ty : Ty) × (ty_at targets target ≡ Some ty) × HasType widths value ty
 
 -- the memory of a listed state is typed: there is a cell for each block, and all of them are cells of the program
 pub record IsTypedMemory (widths : Widths) (targets : List Target) (listed : ListedState) : Type 0 where

@@ -4,7 +4,6 @@ ghost use Rattle.tw_state.specs.FreeCells.{EndsAfter, FormedAt, is_free, link_of
 ghost use Rattle.tw_state.specs.FromCode.{cell_of, listed_of};
 
 use crate::state::{Cell, State};
-use crate::typing::block_count;
 use tw_types::Widths;
 
 /// The link of a cell. `None` if it is live.
@@ -69,6 +68,6 @@ fn ends_after(cells: &[Cell], address: u32, count: usize) -> bool
 pub fn well_formed(state: &State, widths: Widths) -> bool
     ensures { Decides result (FormedAt widths (listed_of state.now)) }
 {
-    state.cells.len() == block_count(widths) as usize
+    state.cells.len() == widths.block_count() as usize
         && ends_after(&state.cells, state.free, count_free(&state.cells))
 }

@@ -1,14 +1,13 @@
 //! Renaming of blocks.
 ghost use Rattle.std.specs.Prelude.{◌≡◌, false, length, map, replicate, IfOk};
 ghost use Rattle.tw_types.specs.FromCode.{value_of};
-ghost use Rattle.tw_types.specs.Values.{PairValue};
 ghost use Rattle.tw_state.specs.FromCode.{cell_of, listed_of};
 ghost use Rattle.tw_state.specs.Renaming.{renamed_cell, renamed_value};
 ghost use Rattle.tw_state.specs.Renamings.{ArePlaced, IsPermutation, IsRenamed, renumbered};
 
 use crate::state::{Cell, State};
 use std::alloc::{AllocError, Global};
-use tw_types::Val;
+use tw_types::{Val, pair};
 
 /// The new address of a block. Null stays, and so does what is no block.
 fn renumbered(perm: &[u32], block: u32) -> u32
@@ -18,15 +17,6 @@ fn renumbered(perm: &[u32], block: u32) -> u32
         return block;
     }
     perm[block as usize - 1]
-}
-
-/// The pair of two values. An error: out of memory.
-fn pair(alloc: Global, first: Val, second: Val) -> Result<Val, AllocError>
-    ensures { IfOk result (λ val. value_of val ≡ PairValue (value_of first) (value_of second)) }
-{
-    let first = Box::new(alloc, first)?;
-    let second = Box::new(alloc, second)?;
-    Ok(Val::Pair(first, second))
 }
 
 /// A value with its addresses renamed. An error: out of memory.

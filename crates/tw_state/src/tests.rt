@@ -3,18 +3,19 @@ ghost use Rattle.tw_syntax.specs.Programs.{program_tree};
 ghost use Rattle.tw_resolve.specs.Declarations.{funs_of};
 ghost use Rattle.tw_check.specs.EntryPoints.{IsEntry};
 
-use crate::{Cell, Side, State, rename, typed, well_formed};
+use crate::{Cell, Side, State, print_state, rename, typed, well_formed};
 use bumpalo::Bump;
 use std::alloc::{AllocError, Global};
 use std::test::Fail;
 use tw_check::{Checked, Entry, check, find_entry};
+use tw_io::VecSink;
 use tw_resolve::resolve;
 use tw_syntax::{
     Alias, Atom, AtomKind, Decl, Expr, ExprKind, Fun, Name, Param, Path, Program, Rhs, Stmt,
     StmtKind, Written, WrittenKind, build_program, build_written,
 };
 use tw_text::{Arena, Fault, Pos};
-use tw_types::{TargetId, Val, Widths, same};
+use tw_types::{TargetId, Val, Widths, pair, same};
 
 /// Words of 3 bits, and addresses of 2: three blocks.
 const WIDTHS: Widths = Widths { word: 3, addr: 2 };
@@ -36,9 +37,12 @@ fn param<'a>(text: &'a str, ty: &'a Written<'a>) -> Param<'a> {
     }
 }
 
-/// `fun keep(xs: ptr<list>, acc: uint) -> uint { let out <- acc; return out; }`.
-fn keep<'a>(arena: &'a Arena, pointer: &'a Written<'a>) -> Result<Fun<'a>, AllocError> {
-    let word = written(arena, WrittenKind::Uint)?;
+/// `fun keep(xs: ptr<list>, acc: T) -> T { let out <- acc; return out; }`, for a type `T`.
+fn keep<'a>(
+    arena: &'a Arena,
+    pointer: &'a Written<'a>,
+    ty: &'a Written<'a>,
+) -> Result<Fun<'a>, AllocError> {
     let acc = Path {
         root: name("acc"),
         steps: &[],
@@ -61,16 +65,16 @@ fn keep<'a>(arena: &'a Arena, pointer: &'a Written<'a>) -> Result<Fun<'a>, Alloc
     Ok(Fun {
         name: name("keep"),
         bound: None,
-        params: arena.try_alloc_slice_copy(&[param("xs", pointer), param("acc", word)])?,
-        result: word,
+        params: arena.try_alloc_slice_copy(&[param("xs", pointer), param("acc", ty)])?,
+        result: ty,
         body: arena.try_alloc_slice_copy(&[assign])?,
         return_at: AT,
         returned: name("out"),
     })
 }
 
-/// `type list = (uint, ptr<list>);`, and `keep`.
-fn program<'a>(arena: &'a Arena) -> Result<&'a Program<'a>, AllocError> {
+/// `type list = (uint, ptr<list>);`, and `keep` of a type.
+fn program<'a>(arena: &'a Arena, ty: &'a Written<'a>) -> Result<&'a Program<'a>, AllocError> {
     let list = written(arena, WrittenKind::Named("list"))?;
     let pointer = written(arena, WrittenKind::Ptr(list))?;
     let word = written(arena, WrittenKind::Uint)?;
@@ -78,13 +82,22 @@ fn program<'a>(arena: &'a Arena) -> Result<&'a Program<'a>, AllocError> {
         name: name("list"),
         body: written(arena, WrittenKind::Pair(word, pointer))?,
     };
-    let decls = [Decl::Alias(alias), Decl::Fun(keep(arena, pointer)?)];
+    let decls = [Decl::Alias(alias), Decl::Fun(keep(arena, pointer, ty)?)];
     build_program(arena, arena.try_alloc_slice_copy(&decls)?)
 }
 
-fn checked<'a>(alloc: Global, arena: &'a Arena) -> Result<Checked<'a>, Fault> {
-    let resolved = resolve(alloc, arena, program(arena)?, WIDTHS)?;
+fn checked_at<'a>(
+    alloc: Global,
+    arena: &'a Arena,
+    ty: &'a Written<'a>,
+) -> Result<Checked<'a>, Fault> {
+    let resolved = resolve(alloc, arena, program(arena, ty)?, WIDTHS)?;
     check(alloc, resolved)
+}
+
+/// The program with `keep` of words.
+pub fn checked<'a>(alloc: Global, arena: &'a Arena) -> Result<Checked<'a>, Fault> {
+    checked_at(alloc, arena, written(arena, WrittenKind::Uint)?)
 }
 
 /// A live cell with the target `list`: a number, and the address of the next item.
@@ -255,5 +268,71 @@ fn blocks_get_new_numbers(rt: HostRuntime) -> Result<(), Fail> {
     let renamed = rename(alloc, &state, &[3, 1, 2])?;
     assert!(rt; same_state(&renamed, &two_items_renamed(alloc)?));
     assert!(rt; well_formed(&renamed, WIDTHS));
+    Ok(())
+}
+
+/// Whether a state is typed on a side of an entry, and has this text.
+fn prints(
+    alloc: Global,
+    state: &State,
+    checked: &Checked,
+    entry: Entry,
+    side: Side,
+    text: &[u8],
+) -> bool
+    requires { IsEntry (funs_of (program_tree checked.now.resolved.program.now).decls) entry }
+{
+    let mut sink = VecSink::new(alloc);
+    typed(state, checked, entry, side)
+        && print_state(state, checked, entry, side, &mut sink).is_ok()
+        && sink.taken() == text
+}
+
+#[test]
+fn states_have_a_line_for_each_block_and_each_name(rt: HostRuntime) -> Result<(), Fail> {
+    let alloc = rt.alloc();
+    let arena = Bump::new(alloc);
+    let checked = checked(alloc, &arena)?;
+    let entry = find_entry(&checked, "keep", None)?;
+    let mut state = two_items(alloc, 3, 5, 1)?;
+    let start = b"free 3\n1 live list (5, @2)\n2 live list (7, @0)\n3 free 0\nxs @1\nacc 0\n";
+    let end = b"free 3\n1 live list (5, @2)\n2 live list (7, @0)\n3 free 0\nxs @1\nacc 0\nout 2\n";
+    let at_start = prints(alloc, &state, &checked, entry, Side::Start, start);
+    state.store.push(Val::U(2))?;
+    let at_end = prints(alloc, &state, &checked, entry, Side::End, end);
+    assert!(rt; at_start && at_end);
+    Ok(())
+}
+
+/// `((), (bool, bool))`.
+fn flags_type<'a>(arena: &'a Arena) -> Result<&'a Written<'a>, AllocError> {
+    let flag = written(arena, WrittenKind::Bool)?;
+    let unit = written(arena, WrittenKind::Unit)?;
+    let flags = written(arena, WrittenKind::Pair(flag, flag))?;
+    written(arena, WrittenKind::Pair(unit, flags))
+}
+
+/// `((), (true, false))`.
+fn flags(alloc: Global) -> Result<Val, AllocError> {
+    let both = pair(alloc, Val::B(true), Val::B(false))?;
+    pair(alloc, Val::Unit, both)
+}
+
+#[test]
+fn pairs_truth_values_unit_and_null_are_printed(rt: HostRuntime) -> Result<(), Fail> {
+    let alloc = rt.alloc();
+    let arena = Bump::new(alloc);
+    let checked = checked_at(alloc, &arena, flags_type(&arena)?)?;
+    let entry = find_entry(&checked, "keep", None)?;
+    let mut store = Vec::new(alloc);
+    store.push(Val::Ptr(0))?;
+    store.push(flags(alloc)?)?;
+    let state = State {
+        free: 2,
+        cells: cells_of(alloc, Cell::Free(3), Cell::Free(1), Cell::Free(0))?,
+        store,
+    };
+    let text = b"free 2\n1 free 3\n2 free 1\n3 free 0\nxs @0\nacc ((), (true, false))\n";
+    assert!(rt; prints(alloc, &state, &checked, entry, Side::Start, text));
     Ok(())
 }

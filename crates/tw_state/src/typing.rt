@@ -2,17 +2,15 @@
 ghost use Rattle.std.specs.Prelude.{◌≡◌, ◌<◌, ◌≤◌, map, take, length, slice_get, Some, Decides};
 ghost use Rattle.std.specs.List.{AllByRecursion};
 ghost use Rattle.tw_syntax.specs.Programs.{fun_tree, program_tree};
-ghost use Rattle.tw_types.specs.Types.{block_count};
 ghost use Rattle.tw_types.specs.FromCode.{value_of};
 ghost use Rattle.tw_resolve.specs.Declarations.{funs_of};
 ghost use Rattle.tw_resolve.specs.Resolved.{resolved_setting, type_at};
 ghost use Rattle.tw_check.specs.EntryPoints.{IsEntry};
-ghost use Rattle.tw_state.specs.Typing.{IsCell};
 ghost use Rattle.tw_state.specs.FromCode.{cell_of, listed_of};
 ghost use Rattle.tw_state.specs.Listed.{HaveTypes, names_at_end};
 ghost use Rattle.tw_state.specs.Results.{Fits};
 ghost use Rattle.tw_state.specs.Steps.{fun_types};
-ghost use Rattle.tw_state.specs.TypedLists.{IsTypedEntry, IsTypedMemory};
+ghost use Rattle.tw_state.specs.TypedLists.{IsCell, IsTypedEntry, IsTypedMemory};
 
 use crate::names::{name_at, name_count};
 use crate::state::{Cell, Side, State};
@@ -20,20 +18,13 @@ use tw_check::{Checked, Entry};
 use tw_syntax::Fun;
 use tw_types::{Targets, Val, Widths, has_type};
 
-/// The number of blocks: one less than there are addresses.
-pub fn block_count(widths: Widths) -> u32
-    ensures { result ≡ block_count widths }
-{
-    (1 << widths.addr) - 1
-}
-
 /// Whether a free cell links to a block or to null, and a live one has a target of the program and a value of the type that this
 /// denotes.
 fn cell_typed(cell: &Cell, targets: &Targets, widths: Widths) -> bool
     ensures { Decides result (IsCell widths targets.now (cell_of cell.now)) }
 {
     match cell {
-        Cell::Free(next) => *next <= block_count(widths),
+        Cell::Free(next) => *next <= widths.block_count(),
         Cell::Live(target, val) => {
             target.0 < targets.len() && has_type(val, &targets.ty(*target), widths)
         }
@@ -57,7 +48,7 @@ fn cells_typed(cells: &[Cell], targets: &Targets, widths: Widths) -> bool
 fn memory_typed(state: &State, targets: &Targets, widths: Widths) -> bool
     ensures { Decides result (IsTypedMemory widths targets.now (listed_of state.now)) }
 {
-    let blocks = block_count(widths);
+    let blocks = widths.block_count();
     if state.free > blocks || state.cells.len() != blocks as usize {
         return false;
     }

@@ -22,6 +22,12 @@ usage: yathrefon COMMAND [OPTION..]    the input is read from standard input, th
     --entry F    the function to compile
     --bound N    the number of its bound, from 0 to 255 (if it declares one)
     --inverse    the inverse circuit (optional)
+  run        run a program on states: the input is the program, a line `%%`, and the states
+    --word W     bits of a word, from 1 to 32
+    --addr A     bits of an address, from 1 to 8
+    --entry F    the function to run
+    --bound N    the number of its bound, from 0 to 255 (if it declares one)
+    --back       find the states whose results are given (optional)
   sim        run a gate file on lines of bits: the input is the gate file, a line `%%`, and the lines
   invert     print the inverse of a gate file
 ";

@@ -1,6 +1,6 @@
 use Rattle.std.proofs.Common.{◌≡◌, ap, Err}
 use Rattle.tw_syntax.specs.Programs.{program_tree}
-use Rattle.tower.proofs.Accepting.{no_source, ill_typed, accepted_if_kept, broken_if_not, found_as}
+use Rattle.tower.proofs.Accepting.{no_source, ill_typed, accepted_if_kept, widths_if_kept, broken_if_not, found_as}
 use Rattle.tower.proofs.accept.accept.Goals as goal
 
 pub returns-in_err-program-clause-refused : goal.returns-in_err-program-clause-refused
@@ -19,6 +19,9 @@ pub returns-clause-accepted : goal.returns-clause-accepted
 returns-clause-accepted c =
     let same : c.in_ok-resolved.resolved.program ≡ c.in_ok-program.program = c.in_ok-resolved.ensures.program in
     accepted_if_kept c.args.widths c.in_ok-resolved.resolved c.check.result (rw same c.in_ok-resolved.ensures.typed) c.check.ensures.tried c.check.ensures.kept
+
+pub returns-clause-widths : goal.returns-clause-widths
+returns-clause-widths c = widths_if_kept c.args.widths c.in_ok-resolved.resolved c.check.result c.in_ok-resolved.ensures.widths c.check.ensures.kept
 
 pub returns-clause-refused : goal.returns-clause-refused
 returns-clause-refused c =

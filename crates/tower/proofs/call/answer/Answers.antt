@@ -14,6 +14,9 @@ returns-in-Check g c = subst (λ (k : Command). Did g.K.Sink.taken g.K.Sink.faul
 pub returns-in-Compile : goal.returns-in-Compile
 returns-in-Compile g c = subst (λ (k : Command). Did g.K.Sink.taken g.K.Sink.faults c.args.output.now c.compile.new.output c.compile.result (InputAnswer (request_of k) c.args.bytes.now)) (sym c.in-Compile.is) c.compile.ensures
 
+pub returns-in-Run : goal.returns-in-Run
+returns-in-Run g c = subst (λ (k : Command). Did g.K.Sink.taken g.K.Sink.faults c.args.output.now c.run_program.new.output c.run_program.result (InputAnswer (request_of k) c.args.bytes.now)) (sym c.in-Run.is) c.run_program.ensures
+
 pub returns-in-Simulate : goal.returns-in-Simulate
 returns-in-Simulate g c = subst (λ (k : Command). Did g.K.Sink.taken g.K.Sink.faults c.args.output.now c.simulate.new.output c.simulate.result (InputAnswer (request_of k) c.args.bytes.now)) (sym c.in-Simulate.is) c.simulate.ensures
 

@@ -1,7 +1,9 @@
-use Rattle.tower.specs.Requests.{Format, Check, Compile, Simulate, Invert}
+use Rattle.std.proofs.Common.{⊎_elim}
+use Rattle.tower.specs.Requests.{Format, Check, Compile, Run, Simulate, Invert}
 use Rattle.tower.proofs.OneAnswer.{one_answer}
 use Rattle.tower.proofs.WhenEnded.{only_where, comes, usage_only, complete}
 use Rattle.tower.proofs.Promises.{promised}
+use Rattle.tower.proofs.PrintedRuns.{stuck_run}
 use Rattle.tower.proofs.call.tower_main.Goals as goal
 
 pub returns-clause-one_answer : goal.returns-clause-one_answer
@@ -19,6 +21,11 @@ returns-clause-formatted g c = promised Format _ _ _ c.args.words.now c.run.resu
 
 pub returns-clause-checked : goal.returns-clause-checked
 returns-clause-checked g c = λ widths. promised (Check widths) _ _ _ c.args.words.now c.run.result c.run.ensures.answered
+
+pub returns-clause-ran : goal.returns-clause-ran
+returns-clause-ran g c =
+    λ request asks ended.
+    ⊎_elim (promised (Run request) _ _ _ c.args.words.now c.run.result c.run.ensures.answered asks) (stuck_run request _ _ _ c.args.words.now c.run.result c.run.ensures.answered asks) ended
 
 pub returns-clause-inverted : goal.returns-clause-inverted
 returns-clause-inverted g c = promised Invert _ _ _ c.args.words.now c.run.result c.run.ensures.answered

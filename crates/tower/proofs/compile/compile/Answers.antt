@@ -1,15 +1,15 @@
-use Rattle.std.proofs.Common.{ap, sym, refl}
+use Rattle.std.proofs.Common.{sym, refl}
 use Rattle.tw_syntax.specs.Programs.{program_tree}
 use Rattle.tw_gatetext.specs.Text.{file_text}
 use Rattle.tw_gatetext.specs.Files.{plain_file}
 use Rattle.tower.specs.declared.ending.Unanswered.TheVariants as unanswered
 use Rattle.tower.specs.Seen.{form_seen}
 use Rattle.tower.specs.Given.{file_request}
-use Rattle.tower.specs.Outcomes.{Prints}
 use Rattle.tower.specs.Sources.{SourceAnswer, OnTree}
 use Rattle.tower.specs.Accepted.{IsReady, IsBadEntry}
-use Rattle.tower.specs.Compile.{CompileAnswer, Broken, BadEntry, Built, NotBuilt}
-use Rattle.tower.proofs.FirstTrees.{form-sound, no_form-complete}
+use Rattle.tower.specs.Compile.{CompileAnswer, Broken, BadEntry, NotBuilt}
+use Rattle.tower.proofs.Compiles.{built}
+use Rattle.tower.proofs.FirstTrees.{no_form-complete}
 use Rattle.tower.proofs.Doing.{as_error, did_break, did_print}
 use Rattle.tower.proofs.Accepting.{did_accept}
 use Rattle.tower.proofs.compile.compile.Goals as goal
@@ -32,9 +32,6 @@ returns-in_default g c =
     let ready : IsReady (file_request c.args.options.now) tree = record { accepted = c.in_ok-checked.ensures.accepted; entry = c.in_ok-find_entry.ensures.kept } in
     (OnTree tree c.in_ok-checked.ensures.source (NotBuilt ready (no_form-complete tree.decls (sym c.in_default.ensures)) refl), refl)
 
-pub file_of-requires : goal.file_of-requires
-file_of-requires g c = (form-sound (program_tree c.in_ok-checked.checked.resolved.program.now).decls (form_seen c.in-Some.form) (sym c.in-Some.ensures)).1
-
 pub returns-in_err-file : goal.returns-in_err-file
 returns-in_err-file g c =
     as_error g.K.Sink.taken g.K.Sink.faults c.args.output.now c.args.output.now c.from_residual-in_err-file.result unanswered.Memory (SourceAnswer c.args.bytes.now (CompileAnswer (file_request c.args.options.now)))
@@ -44,14 +41,12 @@ pub returns-in_err-write_gate_file : goal.returns-in_err-write_gate_file
 returns-in_err-write_gate_file g c =
     let tree = program_tree c.in_ok-checked.checked.resolved.program.now in
     let ready : IsReady (file_request c.args.options.now) tree = record { accepted = c.in_ok-checked.ensures.accepted; entry = c.in_ok-find_entry.ensures.kept } in
-    let first = (form-sound tree.decls (form_seen c.in-Some.form) (sym c.in-Some.ensures)).0 in
     did_break g.K.Sink.taken g.K.Sink.faults _ _ (file_text (plain_file c.in_ok-file.file)) _ c.from_residual-in_err-write_gate_file.result _ c.from_residual-in_err-write_gate_file.ensures.1
-    (OnTree tree c.in_ok-checked.ensures.source (Built _ ready first (ap (λ f. Prints (file_text f)) c.in_ok-file.ensures.defined))) c.in_err-write_gate_file.ensures.wrote
+    (OnTree tree c.in_ok-checked.ensures.source (built (file_request c.args.options.now) tree (form_seen c.in-Some.form) (plain_file c.in_ok-file.file) ready (sym c.in-Some.ensures) c.in_ok-file.ensures.defined)) c.in_err-write_gate_file.ensures.wrote
 
 pub returns : goal.returns
 returns g c =
     let tree = program_tree c.in_ok-checked.checked.resolved.program.now in
     let ready : IsReady (file_request c.args.options.now) tree = record { accepted = c.in_ok-checked.ensures.accepted; entry = c.in_ok-find_entry.ensures.kept } in
-    let first = (form-sound tree.decls (form_seen c.in-Some.form) (sym c.in-Some.ensures)).0 in
     did_print g.K.Sink.taken g.K.Sink.faults _ _ (file_text (plain_file c.in_ok-file.file)) _ _
-    (OnTree tree c.in_ok-checked.ensures.source (Built _ ready first (ap (λ f. Prints (file_text f)) c.in_ok-file.ensures.defined))) c.in_ok-write_gate_file.ensures.wrote
+    (OnTree tree c.in_ok-checked.ensures.source (built (file_request c.args.options.now) tree (form_seen c.in-Some.form) (plain_file c.in_ok-file.file) ready (sym c.in-Some.ensures) c.in_ok-file.ensures.defined)) c.in_ok-write_gate_file.ensures.wrote

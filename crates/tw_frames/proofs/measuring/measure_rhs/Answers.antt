@@ -1,3 +1,5 @@
+use Rattle.std.proofs.Common.{nat_eq}
+use Rattle.indexmap.specs.IndexMap.{get}
 use Rattle.std.proofs.Common.{map}
 use Rattle.tw_syntax.specs.Names.{name_tree}
 use Rattle.tw_resolve.specs.Resolved.{resolved_setting}
@@ -8,4 +10,4 @@ pub returns-in-Call : goal.returns-in-Call
 returns-in-Call c =
     λ at forward target.
     rw (c.in-Call.is)
-    (found_call (resolved_setting c.args.resolved.now) c.args.known.now c.args.own c.measure_callee.ensures c.one_more.ensures at forward target (map name_tree c.in-Call.args.now))
+    (found_call (resolved_setting c.args.resolved.now) (get nat_eq c.args.known.now) c.args.own c.measure_callee.ensures c.one_more.ensures at forward target (map name_tree c.in-Call.args.now))

@@ -1,6 +1,6 @@
 use Rattle.std.proofs.Common.{◌↔◌, drop, map}
 use Rattle.std.specs.List.{AllByRecursion}
-use Rattle.tw_state.specs.Typing.{IsCell}
+use Rattle.tw_state.specs.TypedLists.{IsCell}
 use Rattle.tw_state.specs.FromCode.{cell_of}
 use Rattle.tw_state.proofs.typing.cells_typed.Given as goal
 

@@ -1,0 +1,3 @@
+pub mod ListStates
+pub mod TypedLists
+pub mod MakingLists

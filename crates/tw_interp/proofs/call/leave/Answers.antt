@@ -1,0 +1,38 @@
+use Rattle.std.proofs.Common.{◌≡◌, ◌∙◌, ◌-◌, ◌+◌, ap, sym, arith, ℕ, List}
+use Rattle.std.proofs.lemmas.Option.{slice_get-get_or}
+use Rattle.tw_state.specs.States.{Name, Store}
+use Rattle.tw_state.specs.Steps.{put_back}
+use Rattle.tw_interp.specs.Frames.{store_of, with_slot}
+use Rattle.tw_interp.proofs.Changing.{on_ok}
+use Rattle.tw_interp.proofs.Links.{links_from, links_none, left_next}
+use Rattle.tw_interp.proofs.call.leave.Goals as goal
+
+pub loop-i-init : goal.loop-i-init
+loop-i-init c = (
+  omega (arith, c.min-i.ensures),
+  omega (arith, c.min-i.ensures),
+  sym (ap (λ (l : List (Name × Name)). put_back l (store_of c.args.callee.now) (store_of c.args.caller.now)) (links_none c.args.fun.now.params.now c.args.args.now c.min-i.result c.min-i.ensures)),
+)
+
+pub loop-i-preserved : goal.loop-i-preserved
+loop-i-preserved c =
+    let params = c.args.fun.now.params.now in
+    let args = c.args.args.now in
+    let i = c.loop-i.i - 1 in
+    let more : c.loop-i.i ≡ i + 1 = omega (arith, c.loop-i-test.true) in (
+      omega (arith, c.loop-i.invariant.0),
+      omega (arith, c.loop-i.invariant.1),
+      left_next params args i c.loop-i.i _ _ (slice_get-get_or params i _ (omega (arith, c.loop-i.invariant.0, c.loop-i-test.true))) (slice_get-get_or args i _ (omega (arith, c.loop-i.invariant.1, c.loop-i-test.true))) more
+          (store_of c.args.callee.now) (store_of c.args.caller.now) (store_of c.loop-i.caller) (store_of c.share.new.to) c.loop-i.invariant.2 c.in_ok-share.ensures,
+    )
+
+pub returns : goal.returns
+returns c =
+    let done : c.loop-i.i ≡ 0 = omega (arith, c.loop-i-test.false) in
+    let callee = store_of c.args.callee.now in
+    on_ok c.share-2.result
+    (λ is.
+    is
+    ∙ ap (λ (s : Store). with_slot s c.args.target.now.text.now (callee c.args.fun.now.returned.text.now))
+    (c.loop-i.invariant.2 ∙ ap (λ (n : ℕ). put_back (links_from c.args.fun.now.params.now c.args.args.now n) callee (store_of c.args.caller.now)) done))
+    c.share-2.ensures

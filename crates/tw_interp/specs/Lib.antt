@@ -1,0 +1,6 @@
+pub mod Frames
+pub mod Answers
+pub mod Machines
+pub mod Following
+pub mod Runs
+pub mod StuckLines
