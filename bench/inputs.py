@@ -35,3 +35,18 @@ def bit_lines(count, wires):
     """The separator line and so many lines of bits, which follow a gate file in the input of `sim`."""
     numbers = random.Random(2)
     return "%%\n" + "".join("".join(numbers.choices("01", k=wires)) + "\n" for _ in range(count))
+
+
+def list_states(count, items, blocks=255):
+    """A program that counts the items of a list, and so many states with a list of so many items in random blocks of the memory."""
+    numbers = random.Random(3)
+    texts = []
+    for _ in range(count):
+        places = numbers.sample(range(1, blocks + 1), blocks)
+        follower = dict(zip(places, places[1:]))
+        follower[places[items - 1]] = follower[places[-1]] = 0
+        cells = {block: f"live list ({numbers.randrange(256)}, @{follower[block]})" for block in places[:items]}
+        cells.update((block, f"free {follower[block]}") for block in places[items:])
+        lines = [f"free {places[items]}", *(f"{block} {cells[block]}" for block in range(1, blocks + 1)), f"xs @{places[0] if items else 0}", "acc 0"]
+        texts.append("".join(line + "\n" for line in lines))
+    return PRINTED + "%%\n" + "--\n".join(texts)
