@@ -1,8 +1,11 @@
+pub mod Changes
 pub mod Counting
 pub mod Emission
 pub mod Joining
 pub mod Lists
 pub mod Meaning
+pub mod OnLists
 pub mod Parts
 pub mod Sorting
+pub mod WireMeaning
 pub mod Wires

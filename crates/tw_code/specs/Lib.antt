@@ -1,6 +1,7 @@
 pub mod Counts
 pub mod Emission
 pub mod Examples
+pub mod Functions
 pub mod Meaning
 pub mod Present
 pub mod Sorting
