@@ -1,0 +1,5 @@
+pub mod Built
+pub mod Loads
+pub mod Operations
+pub mod Placing
+pub mod Pricing

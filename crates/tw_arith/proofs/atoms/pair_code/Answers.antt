@@ -1,0 +1,6 @@
+use Rattle.std.proofs.Common.{rules}
+use Rattle.tw_arith.proofs.Placing.{pair_made}
+use Rattle.tw_arith.proofs.atoms.pair_code.Goals as goal
+
+pub returns-clause-xors : goal.returns-clause-xors
+returns-clause-xors c = pair_made _ _ _ _ _ _ (search rules) c.requires.x c.requires.y c.requires.apart

@@ -1,0 +1,5 @@
+pub mod Circuits
+pub mod Examples
+pub mod Operands
+pub mod Prices
+pub mod Xors
