@@ -12,7 +12,7 @@ use Rattle.tw_types.specs.Types.{Widths}
 use Rattle.tw_resolve.specs.Programs.{setting_of}
 use Rattle.tw_resolve.specs.Setting.{Setting}
 use Rattle.tw_check.specs.Liveness.{param_names}
-use Rattle.tw_frames.specs.Layout.{layout_with}
+use Rattle.tw_frames.specs.Conjunctions.{conjunction_layout_with}
 use Rattle.tw_lower.specs.Circuits.{and_gates}
 use Rattle.tw_lower.specs.Correct.{Implements, IsConjunction}
 use Rattle.tw_lower.proofs.Implemented.{gates_of, inverse-conjunction, implements}
@@ -67,7 +67,7 @@ module _ (request : FileRequest) (setting : Setting) {fun : FunTree} {left right
   file_compiled =
       let fine = valid setting request.inverse is all_bits narrow few in
       let gates = gates_of setting fun left right in
-      let wires = (layout_with setting fun 2).wires in
+      let wires = (conjunction_layout_with setting fun 2).wires in
       record {
         defined = file_of-conjunction setting request.inverse is;
         valid = fine;

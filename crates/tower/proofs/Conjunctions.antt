@@ -33,8 +33,9 @@ use Rattle.tw_state.specs.Steps.{fun_types}
 use Rattle.tw_state.proofs.Basics.{some_value, by_option}
 use Rattle.tw_state.proofs.SoundPrograms.{sound}
 use Rattle.tw_state.proofs.TypedTrees.{ParamFits, FunFits}
-use Rattle.tw_frames.specs.declared.regions.WireLayout.{WireLayout}
-use Rattle.tw_frames.specs.Layout.{name_size, regions, layout_with, wire_from, wire_of}
+use Rattle.tw_frames.specs.declared.conjunctions.ConjunctionLayout.{ConjunctionLayout}
+use Rattle.tw_frames.specs.Conjunctions.{conjunction_regions, conjunction_layout_with, wire_of}
+use Rattle.tw_frames.specs.Sizes.{name_size, wire_from}
 use Rattle.tw_frames.proofs.Wires.{AreBoolean, size-truth, one_of_others}
 use Rattle.tw_lower.specs.Circuits.{and_gates, function_gates}
 use Rattle.tw_lower.specs.Correct.{IsLetAnd, LetAnd, IsConjunction}
@@ -171,15 +172,15 @@ same_gates left left' right right' result result' scratch scratch' e f g h = cc
 
 -- the file of a function that is a conjunction
 abbrev pub conjunction_file : Setting → Bool → FunTree → Name → Name → File
-conjunction_file setting inverse fun left right = file_with inverse (layout_with setting fun 2) (gates_of setting fun left right)
+conjunction_file setting inverse fun left right = file_with inverse (conjunction_layout_with setting fun 2) (gates_of setting fun left right)
 
 pub file_of-conjunction : (setting : Setting) (inverse : Bool) {fun : FunTree} {left right : Name} → IsConjunction fun left right → file_of setting inverse fun ≡ Some (conjunction_file setting inverse fun left right)
 file_of-conjunction setting inverse {fun} is =
     ap (option_and_then (λ layout. option_map (file_with inverse layout) (function_gates setting fun))) (layout_of-conjunction setting is)
-    ∙ ap (option_map (file_with inverse (layout_with setting fun 2))) (function_gates-conjunction setting is)
+    ∙ ap (option_map (file_with inverse (conjunction_layout_with setting fun 2))) (function_gates-conjunction setting is)
 
 -- the gates of a form have the T-count of one Toffoli, in both directions
-one_toffoli : (inverse : Bool) (layout : WireLayout) (left right result scratch : ℕ)
+one_toffoli : (inverse : Bool) (layout : ConjunctionLayout) (left right result scratch : ℕ)
     → file_with inverse layout (and_gates left right result scratch) ≡ record { level = levels.Mcx; wires = layout.wires; t_count = TOFFOLI_T_COUNT; gates = directed inverse (and_gates left right result scratch) }
 one_toffoli true layout left right result scratch = refl
 one_toffoli false layout left right result scratch = refl
@@ -190,16 +191,16 @@ pub form_file-defined : (setting : Setting) (inverse : Bool) (form : Form) {fun 
 form_file-defined setting inverse form {fun} is plain names =
     let widths = setting.widths in
     let counted : length (param_names fun) ≡ length (parameters_of form.first form.second) = ap length names in
-    let same : layout_with setting fun 2 ≡ regions widths widths.addr (length (parameters_of form.first form.second)) 1 2 = layout-plain setting fun plain ∙ ap (λ (n : ℕ). regions widths widths.addr n 1 2) counted in
+    let same : conjunction_layout_with setting fun 2 ≡ conjunction_regions widths widths.addr (length (parameters_of form.first form.second)) 1 2 = layout-plain setting fun plain ∙ ap (λ (n : ℕ). conjunction_regions widths widths.addr n 1 2) counted in
     let bools = subst (AreBoolean (fun_types setting fun)) names plain.parameters in
-    let from : (layout_with setting fun 2).args ≡ (regions widths widths.addr (length (parameters_of form.first form.second)) 1 2).args = ap (λ (l : WireLayout). l.args) same in
-    let wire : (name : Name) → is_one_of name (param_names fun) ≡ true → wire_of setting fun name ≡ (regions widths widths.addr (length (parameters_of form.first form.second)) 1 2).args + place form.first name =
+    let from : (conjunction_layout_with setting fun 2).args ≡ (conjunction_regions widths widths.addr (length (parameters_of form.first form.second)) 1 2).args = ap (λ (l : ConjunctionLayout). l.args) same in
+    let wire : (name : Name) → is_one_of name (param_names fun) ≡ true → wire_of setting fun name ≡ (conjunction_regions widths widths.addr (length (parameters_of form.first form.second)) 1 2).args + place form.first name =
     λ name known.
-    ap (λ (list : List Name). wire_from widths (fun_types setting fun) (layout_with setting fun 2).args (list ++ fun.returned.text ∷ []) name) names
-    ∙ wire_from-place widths (fun_types setting fun) (layout_with setting fun 2).args form.first form.second fun.returned.text name bools (subst (λ (list : List Name). is_one_of name list ≡ true) names known)
+    ap (λ (list : List Name). wire_from widths (fun_types setting fun) (conjunction_layout_with setting fun 2).args (list ++ fun.returned.text ∷ []) name) names
+    ∙ wire_from-place widths (fun_types setting fun) (conjunction_layout_with setting fun 2).args form.first form.second fun.returned.text name bools (subst (λ (list : List Name). is_one_of name list ≡ true) names known)
     ∙ ap (λ (n : ℕ). n + place form.first name) from in
-    let gates = same_gates _ _ _ _ _ _ _ _ (wire form.left is.left_known) (wire form.right is.right_known) (ap (λ (l : WireLayout). l.out) same) (ap (λ (l : WireLayout). l.scratch) same) in
+    let gates = same_gates _ _ _ _ _ _ _ _ (wire form.left is.left_known) (wire form.right is.right_known) (ap (λ (l : ConjunctionLayout). l.out) same) (ap (λ (l : ConjunctionLayout). l.scratch) same) in
     file_of-conjunction setting inverse is
-    ∙ ap (λ (l : WireLayout). Some (file_with inverse l (gates_of setting fun form.left form.right))) same
-    ∙ ap (λ (g : List PlainGate). Some (file_with inverse (regions widths widths.addr (length (parameters_of form.first form.second)) 1 2) g)) gates
-    ∙ ap Some (one_toffoli inverse (regions widths widths.addr (length (parameters_of form.first form.second)) 1 2) _ _ _ _)
+    ∙ ap (λ (l : ConjunctionLayout). Some (file_with inverse l (gates_of setting fun form.left form.right))) same
+    ∙ ap (λ (g : List PlainGate). Some (file_with inverse (conjunction_regions widths widths.addr (length (parameters_of form.first form.second)) 1 2) g)) gates
+    ∙ ap Some (one_toffoli inverse (conjunction_regions widths widths.addr (length (parameters_of form.first form.second)) 1 2) _ _ _ _)

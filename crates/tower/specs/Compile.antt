@@ -15,9 +15,9 @@ use Rattle.tw_resolve.specs.Declarations.{Name}
 use Rattle.tw_resolve.specs.Expressions.{fun_named}
 use Rattle.tw_resolve.specs.Programs.{IsTyped, setting_of}
 use Rattle.tw_resolve.specs.Setting.{Setting}
-use Rattle.tw_frames.specs.declared.regions.WireLayout.{WireLayout}
+use Rattle.tw_frames.specs.declared.conjunctions.ConjunctionLayout.{ConjunctionLayout}
 use Rattle.tw_frames.specs.Cost.{cost}
-use Rattle.tw_frames.specs.Layout.{layout_of}
+use Rattle.tw_frames.specs.Conjunctions.{conjunction_layout_of}
 use Rattle.tw_lower.specs.Circuits.{function_gates}
 use Rattle.tw_lower.specs.Correct.{Implements}
 use Rattle.tower.specs.Requests.{FileRequest}
@@ -26,14 +26,14 @@ use Rattle.tower.specs.Outcomes.{Outcome, Prints, Refuses}
 use Rattle.tower.specs.FirstTree.{IsFirstTree}
 
 -- the file of these gates, or of their inverse, on the wires of a layout
-abbrev pub file_with : Bool → WireLayout → List PlainGate → File
+abbrev pub file_with : Bool → ConjunctionLayout → List PlainGate → File
 file_with inverse layout plain =
     let gates = directed inverse plain in
     record { level = levels.Mcx; wires = layout.wires; t_count = t_count gates; gates = gates }
 
 -- the gates of the function, or their inverse, on the wires of its layout; none if its body is not compiled yet
 abbrev pub file_of : Setting → Bool → FunTree → Option File
-file_of setting inverse fun = option_and_then (λ layout. option_map (file_with inverse layout) (function_gates setting fun)) (layout_of setting fun)
+file_of setting inverse fun = option_and_then (λ layout. option_map (file_with inverse layout) (function_gates setting fun)) (conjunction_layout_of setting fun)
 
 -- the program is not compiled yet
 abbrev pub IsNotBuilt : ProgramTree → Type 0

@@ -8,7 +8,7 @@ use Rattle.tw_gatetext.specs.Text.{File}
 use Rattle.tw_types.specs.Types.{Widths}
 use Rattle.tw_resolve.specs.Declarations.{is_one_of}
 use Rattle.tw_state.specs.States.{Name}
-use Rattle.tw_frames.specs.Layout.{regions}
+use Rattle.tw_frames.specs.Conjunctions.{conjunction_regions}
 use Rattle.tw_lower.specs.Circuits.{and_gates}
 
 -- its parameters, its result, and the operands
@@ -42,7 +42,7 @@ place first name = if bytes_eq first name then 0 else 1
 -- the file of the form, or its inverse: the parameters and the result have one bit each, and the scratch two
 abbrev pub form_file : Widths → Bool → Form → File
 form_file widths inverse form =
-    let layout = regions widths widths.addr (length (parameters_of form.first form.second)) 1 2 in
+    let layout = conjunction_regions widths widths.addr (length (parameters_of form.first form.second)) 1 2 in
     record {
       level = levels.Mcx;
       wires = layout.wires;

@@ -19,7 +19,7 @@ use crate::request::Options;
 use bumpalo::Bump;
 use std::alloc::{AllocError, Global};
 use tw_check::find_entry;
-use tw_frames::layout;
+use tw_frames::conjunction_layout;
 use tw_gate::{GateList, Level, TOFFOLI_T_COUNT};
 use tw_gatetext::{GateFile, write_gate_file};
 use tw_io::Sink;
@@ -47,7 +47,7 @@ fn file_of(
     ensures few { IfOk result (λ file. AllByRecursion HasFewControls file.gates) }
 {
     let block = widths.addr;
-    let layout = layout(widths, block, form.parameter_count(), 1, 2);
+    let layout = conjunction_layout(widths, block, form.parameter_count(), 1, 2);
     let left = layout.args + form.place(form.left);
     let right = layout.args + form.place(form.right);
     let mut gates = GateList::new(alloc);

@@ -15,6 +15,8 @@ mod ending;
 mod first_form;
 mod format;
 mod invert;
+#[cfg(test)]
+mod layout_tests;
 mod marks;
 #[cfg(test)]
 mod measure_tests;

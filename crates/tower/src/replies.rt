@@ -16,13 +16,14 @@ ghost use Rattle.tower.specs.Run.{is_stuck};
 ghost use Rattle.tower.specs.Replies.{AreRepliesOf, HasText, IsReplyOf, WroteFollowing, WroteReplies, WroteReply, reply_seen};
 
 use crate::ending::Unanswered;
+use bumpalo::Bump;
 use itoa::Buffer;
 use std::alloc::Global;
 use tw_check::{Checked, Entry};
-use tw_interp::{Reason, RunFault, last_side, run_entry};
+use tw_interp::{Reason, RunFault, Runner, last_side};
 use tw_io::{Sink, WriteFault, write_all};
 use tw_state::{SEPARATOR, State, print_state};
-use tw_text::{DiagnosticLine, Pos};
+use tw_text::{Arena, DiagnosticLine, Pos};
 
 /// What a run answers for a state.
 #[derive(Drop)]
@@ -46,21 +47,15 @@ impl Reply {
 }
 
 /// The reply to a state. An error: out of memory.
-fn reply_to(
-    alloc: Global,
-    checked: &Checked<'_>,
-    entry: Entry,
-    back: bool,
-    state: State,
-) -> Result<Reply, Unanswered>
-    requires entry { IsEntry (funs_of (program_tree checked.now.resolved.program.now).decls) entry }
-    requires given { IsGivenTo (resolved_setting checked.now.resolved) entry.fun back (listed_of state) }
-    requires depth { EntryWithin (resolved_setting checked.now.resolved) DEPTH_LIMIT entry.fun entry.bound }
-    ensures reply { IfOk result (λ reply. IsReplyOf (resolved_setting checked.now.resolved) entry.fun entry.bound back (listed_of state) (reply_seen reply)) }
-    ensures printable { IfOk result (λ reply. HasText (resolved_setting checked.now.resolved) entry.fun back (reply_seen reply)) }
+fn reply_to(runner: &Runner, back: bool, state: State) -> Result<Reply, Unanswered>
+    requires entry { IsEntry (funs_of (program_tree runner.now.checked.now.resolved.program.now).decls) runner.now.entry }
+    requires given { IsGivenTo (resolved_setting runner.now.checked.now.resolved) runner.now.entry.fun back (listed_of state) }
+    requires depth { EntryWithin (resolved_setting runner.now.checked.now.resolved) DEPTH_LIMIT runner.now.entry.fun runner.now.entry.bound }
+    ensures reply { IfOk result (λ reply. IsReplyOf (resolved_setting runner.now.checked.now.resolved) runner.now.entry.fun runner.now.entry.bound back (listed_of state) (reply_seen reply)) }
+    ensures printable { IfOk result (λ reply. HasText (resolved_setting runner.now.checked.now.resolved) runner.now.entry.fun back (reply_seen reply)) }
     ensures memory { IfErr result (λ e. e ≡ unanswered.Memory) }
 {
-    match run_entry(alloc, checked, entry, state, back) {
+    match runner.run(state, back) {
         Ok(answer) => Ok(Reply::Ends(answer)),
         Err(RunFault::Stuck { reason, at }) => Ok(Reply::Sticks { reason, at }),
         Err(RunFault::Memory) => Err(Unanswered::Memory),
@@ -83,9 +78,11 @@ pub fn replies_to(
     ensures printable { IfOk result (λ replies. AllByRecursion (HasText (resolved_setting checked.now.resolved) entry.fun back) (map reply_seen replies.items)) }
     ensures memory { IfErr result (λ e. e ≡ unanswered.Memory) }
 {
+    let arena: Arena = Bump::new(alloc);
+    let runner = Runner::new(alloc, &arena, checked, entry)?;
     let mut replies = Vec::new(alloc);
     while let Some(state) = states.pop() {
-        replies.push(reply_to(alloc, checked, entry, back, state)?)?;
+        replies.push(reply_to(&runner, back, state)?)?;
     }
     replies.reverse();
     Ok(replies)

@@ -7,3 +7,12 @@ pub mod Knowing
 pub mod WithinLimits
 pub mod Depths
 pub mod WorkedMeasures
+pub mod WorkedLayouts
+pub mod Counting
+pub mod PathTypes
+pub mod Locals
+pub mod Placing
+pub mod Entered
+pub mod OneLayout
+pub mod FrameWires
+pub mod Reached

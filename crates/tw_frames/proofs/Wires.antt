@@ -14,7 +14,7 @@ use Rattle.tw_state.specs.Results.{Fits}
 use Rattle.tw_state.specs.EntryEncoding.{name_bits}
 use Rattle.tw_state.proofs.Basics.{same_name, name_test}
 use Rattle.tw_state.proofs.TypedValues.{StoreFits}
-use Rattle.tw_frames.specs.Layout.{name_size, names_size, wire_from}
+use Rattle.tw_frames.specs.Sizes.{name_size, names_size, wire_from}
 
 -- these names have values
 abbrev pub AreLive : Store → List Name → Type 0

@@ -1,91 +1,102 @@
--- The wires of a function: the head, the cells, the parameters, the result, and scratch, in this order.
-use Rattle.std.specs.Prelude.{◌≡◌, ℕ, ◌+◌, ◌*◌, max, true, List, [], ◌∷◌, if◌then◌else◌, Option, Some, None, option_map, unwrap_or, codes, refl}
-use Rattle.std.specs.Option.{option_zip}
-use Rattle.std.specs.Str.{bytes_eq}
-use Rattle.tw_syntax.specs.declared.term.OpKind.TheVariants as op
+-- The layout of an entry: its wires in eight regions, one after the other.
+use Rattle.std.specs.Prelude.{◌≡◌, ℕ, ◌+◌, ◌-◌, List, [], ◌∷◌, map, if◌then◌else◌, slice_get, Some, None, Result, OnOk, IfOk, IfErr}
+use Rattle.tw_text.specs.declared.refusal.Counted.TheVariants as counted
+use Rattle.tw_text.specs.declared.refusal.Refusal.{Refusal}
 use Rattle.tw_syntax.specs.Programs.{FunTree}
-use Rattle.tw_syntax.specs.Statements.{StmtTree, Nothing, Then, LetStmt}
-use Rattle.tw_syntax.specs.Terms.{ExprTree, OpExpr, ExprRhs}
-use Rattle.tw_types.specs.Types.{Widths, size, block_count, block_size}
-use Rattle.tw_resolve.specs.Expressions.{Types}
-use Rattle.tw_resolve.specs.Setting.{Setting}
-use Rattle.tw_frames.specs.declared.regions.WireLayout.{WireLayout}
-use Rattle.tw_state.specs.States.{Name}
-use Rattle.tw_state.specs.Steps.{fun_types}
-use Rattle.tw_state.specs.Listed.{names_at_start, names_at_end}
+use Rattle.tw_gate.specs.declared.gate.Level.{Level}
+use Rattle.tw_gate.specs.declared.gate.Level.TheVariants as levels
+use Rattle.tw_code.specs.declared.code.Options.{Options}
+use Rattle.tw_types.specs.Types.{Widths, block_size}
+use Rattle.tw_resolve.specs.Demands.{Demand, first_broken}
+use Rattle.tw_resolve.specs.Setting.{Setting, reported}
+use Rattle.tw_check.specs.declared.entry.Entry.{Entry}
 use Rattle.tw_state.specs.EntryEncoding.{targets_in}
-use Rattle.tw_state.specs.Examples.{main, main_setting, setting_at}
+use Rattle.tw_state.specs.Listed.{names_at_start, names_at_end}
+use Rattle.tw_state.specs.Steps.{fun_types}
+use Rattle.tw_frames.specs.declared.measured.Measured.{Measured}
+use Rattle.tw_frames.specs.declared.regions.RegionSizes.{RegionSizes}
+use Rattle.tw_frames.specs.declared.regions.WireLayout.{WireLayout}
+use Rattle.tw_frames.specs.declared.workspace.Workspace.{Workspace}
+use Rattle.tw_frames.specs.Sizes.{name_size, names_size, memory_size, wire_from}
+use Rattle.tw_frames.specs.Frames.{Frame, frame_from}
+use Rattle.tw_frames.specs.Measures.{MeasuresEntry, within_limit}
+use Rattle.tw_frames.specs.Workspaces.{NeedsEntry}
 
--- the bits of a name; none if it has no type
-abbrev pub name_size : Widths → Types → Name → ℕ
-name_size widths types name = unwrap_or (option_map (size widths) (types name)) 0
+-- the flags: with flattening, one for each `if` that is nested in another, at the deepest place
+abbrev pub flag_count : Options → ℕ → ℕ
+flag_count options if_depth = if options.flatten then if_depth - 1 else 0
 
--- the bits of these names
-abbrev pub names_size : Widths → Types → List Name → ℕ
-names_size widths types [] = 0
-names_size widths types (name ∷ names) = name_size widths types name + names_size widths types names
+-- the ladder: at levels without X gates of more than two controls, the ancillas of the gate with the most controls
+abbrev pub ladder_size : Level → ℕ → ℕ
+ladder_size levels.Mcx most_controls = 0
+ladder_size levels.Tof most_controls = most_controls - 2
+ladder_size levels.T most_controls = most_controls - 2
 
--- the scratch wires of an expression: a copy of each operand of `&&`. Other expressions are not compiled yet
-abbrev pub scratch_of_expr : ExprTree → Option ℕ
-scratch_of_expr (OpExpr at op.And left right) = Some 2
-scratch_of_expr other = None
-
--- the scratch wires of the statement that needs most of them. Statements other than forward `let` are not compiled yet
-abbrev pub scratch_size : StmtTree → Option ℕ
-scratch_size Nothing = Some 0
-scratch_size (Then first rest) = option_map (λ (sizes : ℕ × ℕ). max sizes.0 sizes.1) (option_zip (scratch_size first) (scratch_size rest))
-scratch_size (LetStmt at true target (ExprRhs expr)) = scratch_of_expr expr
-scratch_size other = None
-
--- the bits of the memory: the head, and the cells with this number of bits each
-abbrev pub memory_size : Widths → ℕ → ℕ
-memory_size widths block = widths.addr + block_count widths * block
-
--- the regions after the head and the cells, for these numbers of bits of a block, the parameters, the result and the scratch
-abbrev pub regions : Widths → (block args out scratch : ℕ) → WireLayout
-regions widths block args out scratch =
-    let memory = memory_size widths block in
-    record { args = memory; out = memory + args; scratch = memory + args + out; wires = memory + args + out + scratch }
-
--- the layout of a function with this number of scratch wires
-abbrev pub layout_with : Setting → FunTree → ℕ → WireLayout
-layout_with setting fun scratch =
-    let widths = setting.widths in
+-- the number of wires of each region, and of a block of memory
+abbrev pub region_sizes : Setting → FunTree → Workspace → (flags ladder : ℕ) → RegionSizes
+region_sizes setting fun workspace flags ladder =
     let types = fun_types setting fun in
-    let args = names_size widths types (names_at_start fun) in
-    regions widths (block_size widths (targets_in setting)) args (name_size widths types fun.returned.text) scratch
+    record {
+      block = block_size setting.widths (targets_in setting);
+      args = names_size setting.widths types (names_at_start fun);
+      out = name_size setting.widths types fun.returned.text;
+      frames = workspace.frames;
+      scratch = workspace.scratch;
+      flags = flags;
+      ladder = ladder;
+    }
 
--- the layout of a function whose names are its parameters and its result; none if its body is not compiled yet
-abbrev pub layout_of : Setting → FunTree → Option WireLayout
-layout_of setting fun = option_map (layout_with setting fun) (scratch_size fun.body)
+-- the regions in order: the memory, the parameters, the result, the frames, the scratch, the flags and the ladder
+abbrev pub in_order : Widths → RegionSizes → WireLayout
+in_order widths sizes =
+    let args = memory_size widths sizes.block in
+    let out = args + sizes.args in
+    let frame = out + sizes.out in
+    let scratch = frame + sizes.frames in
+    let flags = scratch + sizes.scratch in
+    let ladder = flags + sizes.flags in
+    record { block = sizes.block; args = args; out = out; frame = frame; scratch = scratch; flags = flags; ladder = ladder; wires = ladder + sizes.ladder }
 
--- the first wire of a name, if the names lie in this order from a wire on; the wire after them for another name
-abbrev pub wire_from : Widths → Types → ℕ → List Name → Name → ℕ
-wire_from widths types first [] name = first
-wire_from widths types first (other ∷ names) name =
-    if bytes_eq other name then first else wire_from widths types (first + name_size widths types other) names name
+-- this is the layout of an entry of the program, with these options, at this level, if no gate has more controls than this
+pub record IsLaidOut (setting : Setting) (entry : Entry) (options : Options) (level : Level) (most_controls : ℕ) (layout : WireLayout) : Type 0 where
+  pub fun : FunTree
+  pub workspace : Workspace
+  pub measured : Measured
+  pub at : slice_get setting.funs entry.fun ≡ Some fun
+  pub needs : NeedsEntry setting fun entry.bound workspace
+  pub measures : MeasuresEntry setting fun entry.bound measured
+  pub is : layout ≡ in_order setting.widths (region_sizes setting fun workspace (flag_count options measured.if_depth) (ladder_size level most_controls))
 
--- the first wire of a parameter or of the result
-abbrev pub wire_of : Setting → FunTree → Name → ℕ
-wire_of setting fun =
-    wire_from setting.widths (fun_types setting fun) (memory_size setting.widths (block_size setting.widths (targets_in setting))) (names_at_end fun)
+-- an entry has one layout
+pub record HasOneLayout (setting : Setting) (entry : Entry) (options : Options) (level : Level) (most_controls : ℕ) : Type 0 where
+  pub layout : WireLayout
+  pub is : IsLaidOut setting entry options level most_controls layout
+  pub only : (other : WireLayout) → IsLaidOut setting entry options level most_controls other → layout ≡ other
 
--- `main(a, b)` with `let c <- a && b;`: the head and one cell of a bit each, a at 2, b at 3, c at 4, scratch at 5 and 6
-pub layout_of_main : layout_of main_setting main ≡ Some (record { args = 2; out = 4; scratch = 5; wires = 7 })
-layout_of_main = refl
+-- the demand on a layout: its wires are within their limit
+abbrev pub wire_rules : WireLayout → List Demand
+wire_rules layout = within_limit counted.Wires layout.wires ∷ []
 
-pub wire_of_a : wire_of main_setting main (codes "a") ≡ 2
-wire_of_a = refl
+-- the answer for a layout: the layout, if its wires are within their limit, and else the refusal by this limit
+pub record IsPlaced (layout : WireLayout) (result : Result WireLayout Refusal) : Type 0 where
+  pub placed : IfOk result (λ found. found ≡ layout)
+  pub kept : OnOk result (first_broken (wire_rules layout) ≡ None)
+  pub refused : IfErr result (λ refusal. first_broken (wire_rules layout) ≡ Some refusal)
 
-pub wire_of_b : wire_of main_setting main (codes "b") ≡ 3
-wire_of_b = refl
+-- the sizes that are reported: a greater one than a `u64` holds is the greatest `u64`
+abbrev pub capped_sizes : RegionSizes → RegionSizes
+capped_sizes sizes = record {
+  block = reported sizes.block;
+  args = reported sizes.args;
+  out = reported sizes.out;
+  frames = reported sizes.frames;
+  scratch = reported sizes.scratch;
+  flags = reported sizes.flags;
+  ladder = reported sizes.ladder;
+}
 
-pub wire_of_c : wire_of main_setting main (codes "c") ≡ 4
-wire_of_c = refl
-
-pub wire_of_no_name : wire_of main_setting main (codes "d") ≡ 5
-wire_of_no_name = refl
-
--- the same with addresses of 8 bits
-pub wide_layout_of_main : layout_of (setting_at (record { word = 32; addr = 8 })) main ≡ Some (record { args = 2048; out = 2050; scratch = 2051; wires = 2053 })
-wide_layout_of_main = refl
+-- the frame of the entry: its parameters and its result have regions of their own, and all else lies from the first wire of the frames on
+abbrev pub entry_frame : Setting → FunTree → WireLayout → Frame
+entry_frame setting fun layout =
+    let names = names_at_end fun in
+    frame_from setting fun (map (λ name. (name, name)) names) (wire_from setting.widths (fun_types setting fun) layout.args names) layout.frame

@@ -1,5 +1,13 @@
-pub mod Layout
+pub mod Sizes
+pub mod Conjunctions
 pub mod Cost
 pub mod Measures
 pub mod MeasureExamples
 pub mod MeasureTable
+pub mod Scratch
+pub mod Frames
+pub mod Workspaces
+pub mod Layout
+pub mod Regions
+pub mod Found
+pub mod LayoutExamples

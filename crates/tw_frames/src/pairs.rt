@@ -35,7 +35,7 @@ pub fn running_bound(bound: Option<u8>) -> Option<u8>
 }
 
 /// The number with which a callee runs. `None` if it does not run.
-fn callee_bound(own: u8, bound: &Option<Bound<'_>>) -> Option<u8>
+pub fn callee_bound(own: u8, bound: &Option<Bound<'_>>) -> Option<u8>
     ensures { result ≡ callee_bound own (option_map bound_tree bound.now) }
 {
     match bound {

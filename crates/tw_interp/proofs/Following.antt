@@ -1,5 +1,5 @@
 -- Answers to single statements that follow the semantics.
-use Rattle.std.proofs.Common.{◌≡◌, ◌≢◌, ◌∙◌, ap, sym, subst, refl, false, Option, Some, None, option_map, Ok, Err}
+use Rattle.std.proofs.Common.{◌≡◌, ◌≢◌, ◌∙◌, ap, sym, subst, refl, true, false, Option, Some, None, option_map, Ok, Err}
 use Rattle.tw_text.specs.declared.place.Pos.{Pos}
 use Rattle.tw_syntax.specs.Names.{NameTree, PathTree}
 use Rattle.tw_syntax.specs.Statements.{LetStmt, SwapStmt}
@@ -11,8 +11,8 @@ use Rattle.tw_resolve.specs.Setting.{Setting}
 use Rattle.tw_check.specs.Right.{overlap}
 use Rattle.tw_state.specs.Evaluation.{expr_value}
 use Rattle.tw_state.specs.Parts.{value_at, with_value_at}
-use Rattle.tw_state.specs.Semantics.{Runs, RunsUnlet, RunsSwap}
-use Rattle.tw_state.specs.States.{State, Store, without}
+use Rattle.tw_state.specs.Semantics.{Runs, RunsLet, RunsUnlet, RunsSwap}
+use Rattle.tw_state.specs.States.{State, Store, with_value, without}
 use Rattle.tw_state.specs.Steps.{Activation, Adds, Swaps}
 use Rattle.tw_state.specs.Stuck.{Reason, Unmet, Sticks, StuckUnlet}
 use Rattle.tw_state.proofs.Basics.{not_both, some_value}
@@ -33,6 +33,23 @@ module _ (setting : Setting) (act : Activation) where
   -- an un-assigned name had this value
   pub taken_adds : (target : NameTree) (held : Value) (old bare : State) → Some held ≡ old.store target.text → bare ≡ record old { store = without old.store target.text } → Adds target.text held bare old
   taken_adds target held old bare is taken = subst (λ b. Adds target.text held b old) (sym taken) (adds_without old target.text held (sym is))
+
+  no_stuck_let : {at : Pos} {target : NameTree} {expr : ExprTree} {old : State} {why : Reason} {place : Pos} {P : Type 0} → Sticks setting act (LetStmt at true target (ExprRhs expr)) old why place → P
+  no_stuck_let stuck = elim stuck [ ]
+
+  pub let_undefined : (at : Pos) (target : NameTree) (expr : ExprTree) (old new : State) (e : RunFault) (found : Option Val) → found ≡ None → Finds (expr_value setting old.store expr) (option_map value_of found)
+      → Follows {A = Unit {0}} setting act (LetStmt at true target (ExprRhs expr)) old new (Err e)
+  let_undefined at target expr old new e found none finds = record { ran = ran; stuck = λ why place stuck. no_stuck_let stuck }
+    where
+      ran : (end : State) → Runs setting act (LetStmt at true target (ExprRhs expr)) old end → Goes {A = Unit {0}} (new ≡ end) (Err e)
+      ran end (RunsLet value is adds) = not_both (ap (option_map value_of) none) (finds value is)
+
+  pub let_assigned : (at : Pos) (target : NameTree) (expr : ExprTree) (old new : State) (value : Value) → Finds (expr_value setting old.store expr) (Some value)
+      → new ≡ record old { store = with_value old.store target.text value } → Follows {A = Unit {0}} setting act (LetStmt at true target (ExprRhs expr)) old new (Ok tt)
+  let_assigned at target expr old new value finds after = record { ran = ran; stuck = λ why place stuck. no_stuck_let stuck }
+    where
+      ran : (end : State) → Runs setting act (LetStmt at true target (ExprRhs expr)) old end → Goes {A = Unit {0}} (new ≡ end) (Ok tt)
+      ran end (RunsLet v is adds) = after ∙ ap (λ (w : Value). record old { store = with_value old.store target.text w }) (some_value (finds v is)) ∙ sym adds.after
 
   pub unlet_unheld : (at : Pos) (target : NameTree) (expr : ExprTree) (old new : State) (e : RunFault) → None ≡ old.store target.text → Follows {A = Unit {0}} setting act (LetStmt at false target (ExprRhs expr)) old new (Err e)
   unlet_unheld at target expr old new e none = record { ran = ran; stuck = stuck }

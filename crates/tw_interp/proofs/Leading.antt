@@ -3,8 +3,7 @@ use Rattle.std.proofs.Common.{◌≡◌, ap, sym, subst, refl, ℕ, zero, suc, B
 use Rattle.std.proofs.lemmas.Option.{none-some}
 use Rattle.std.proofs.Math.Logic.{◌⊎◌, inl, inr}
 use Rattle.tw_text.specs.declared.place.Pos.{Pos}
-use Rattle.tw_syntax.specs.Statements.{StmtTree, Nothing, Then, stmt_tree, stmts_tree}
-use Rattle.tw_syntax.specs.declared.statement.Stmt.{Stmt}
+use Rattle.tw_syntax.specs.Statements.{StmtTree, Nothing, Then}
 use Rattle.tw_resolve.specs.Setting.{Setting}
 use Rattle.tw_check.specs.Reverse.{reverse_of}
 use Rattle.tw_state.specs.Results.{directed}
@@ -14,8 +13,10 @@ use Rattle.tw_state.specs.Steps.{Activation}
 use Rattle.tw_state.specs.Stuck.{Reason, Sticks, StuckFirst, StuckRest}
 use Rattle.tw_state.proofs.Basics.{some_value}
 use Rattle.tw_interp.specs.declared.fault.RunFault.{RunFault}
+use Rattle.tw_interp.specs.declared.numbered.Step.{Step}
 use Rattle.tw_interp.specs.declared.fault.RunFault.TheVariants as fault
 use Rattle.tw_state.specs.Depth.{IsWithin}
+use Rattle.tw_interp.specs.NumberedTrees.{step_tree, steps_tree}
 use Rattle.tw_interp.specs.Following.{Follows, Goes, Stops}
 
 pub goes_never : (P Q : Type 0) (e : RunFault) → Goes {A = Unit {0}} P (Err e) → Goes {A = Unit {0}} Q (Err e)
@@ -113,21 +114,21 @@ module _ (setting : Setting) (act : Activation) where
       sticks (StuckRest a b) = let parts = splits.runs a in inr (parts.0, parts.1, StuckRest parts.2 b)
 
   -- the reverse of some statements runs the reverse of the last one first
-  pub split_last : (stmts : List Stmt) (i : ℕ) (x : Stmt) → slice_get stmts i ≡ Some x → Splits (reverse_of (stmts_tree (take (suc i) stmts))) (reverse_of (stmt_tree x)) (reverse_of (stmts_tree (take i stmts)))
+  pub split_last : (steps : List Step) (i : ℕ) (x : Step) → slice_get steps i ≡ Some x → Splits (reverse_of (steps_tree (take (suc i) steps))) (reverse_of (step_tree x)) (reverse_of (steps_tree (take i steps)))
   split_last [] i x is = absurd (none-some x is)
   split_last (y ∷ ys) zero x is = record { runs = runs; sticks = sticks }
     where
-      same : stmt_tree y ≡ stmt_tree x
-      same = ap stmt_tree (some_value is)
+      same : step_tree y ≡ step_tree x
+      same = ap step_tree (some_value is)
 
-      runs : {old end : State} → Runs setting act (Then Nothing (reverse_of (stmt_tree y))) old end → (mid : State) × Runs setting act (reverse_of (stmt_tree x)) old mid × Runs setting act Nothing mid end
+      runs : {old end : State} → Runs setting act (Then Nothing (reverse_of (step_tree y))) old end → (mid : State) × Runs setting act (reverse_of (step_tree x)) old mid × Runs setting act Nothing mid end
       runs {old} {end} (RunsThen RunsNothing b) = (end, subst (λ s. Runs setting act (reverse_of s) old end) same b, RunsNothing)
 
-      sticks : {old : State} {why : Reason} {at : Pos} → Sticks setting act (Then Nothing (reverse_of (stmt_tree y))) old why at
-          → Sticks setting act (reverse_of (stmt_tree x)) old why at ⊎ ((mid : State) × Runs setting act (reverse_of (stmt_tree x)) old mid × Sticks setting act Nothing mid why at)
+      sticks : {old : State} {why : Reason} {at : Pos} → Sticks setting act (Then Nothing (reverse_of (step_tree y))) old why at
+          → Sticks setting act (reverse_of (step_tree x)) old why at ⊎ ((mid : State) × Runs setting act (reverse_of (step_tree x)) old mid × Sticks setting act Nothing mid why at)
       sticks (StuckFirst a) = elim a [ ]
       sticks {old} {why} {at} (StuckRest RunsNothing b) = inl (subst (λ s. Sticks setting act (reverse_of s) old why at) same b)
-  split_last (y ∷ ys) (suc j) x is = split_longer (reverse_of (stmt_tree y)) (split_last ys j x is)
+  split_last (y ∷ ys) (suc j) x is = split_longer (reverse_of (step_tree y)) (split_last ys j x is)
 
 -- the invariant of a loop over statements: what is left is within the depth, and leads on
 pub record Loops (setting : Setting) (act : Activation) (depth : ℕ) (forward : Bool) (whole rest : StmtTree) (first now : State) : Type 0 where

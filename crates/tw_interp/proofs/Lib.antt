@@ -1,5 +1,7 @@
-pub mod Tables
-pub mod Stores
+pub mod Slots
+pub mod Numbers
+pub mod StepShapes
+pub mod Preparing
 pub mod Values
 pub mod Following
 pub mod Cells
@@ -16,3 +18,6 @@ pub mod Listing
 pub mod Ending
 pub mod EntryAnswers
 pub mod OneReply
+pub mod Ready
+pub mod Loading
+pub mod KnownNames

@@ -1,7 +1,7 @@
 -- Frames and the lists of values that they are loaded from and written to.
-use Rattle.std.proofs.Common.{◌≡◌, ◌∙◌, ◌+◌, ◌≤◌, ◌<◌, ap, sym, subst, refl, arith, ℕ, zero, suc, Bool, true, false, if◌then◌else◌, List, [], ◌∷◌, ◌++◌, map, drop, take, length, Some, None, slice_get, bytes_eq}
+use Rattle.std.proofs.Common.{◌≡◌, ◌∙◌, ◌+◌, ◌≤◌, ◌<◌, ap, sym, subst, refl, arith, ℕ, zero, suc, Bool, true, false, if◌then◌else◌, List, [], ◌∷◌, ◌++◌, map, drop, take, length, Some, None, option_map, slice_get, bytes_eq}
 use Rattle.std.proofs.Math.Seq.{drop-length}
-use Rattle.std.proofs.lemmas.Option.{none-some}
+use Rattle.std.proofs.lemmas.Option.{none-some, slice_get-map}
 use Rattle.tw_types.specs.declared.values.Val.{Val}
 use Rattle.tw_types.specs.FromCode.{value_of}
 use Rattle.tw_types.specs.Values.{Value}
@@ -10,6 +10,7 @@ use Rattle.tw_state.specs.Listed as listed
 use Rattle.tw_state.specs.States.{Name, Store, empty, with_value}
 use Rattle.tw_state.proofs.Basics.{contradiction, name_test, same_name, some_value}
 use Rattle.tw_state.proofs.Calls.{AreDifferent}
+use Rattle.tw_interp.specs.declared.variable.Var.{Var}
 use Rattle.tw_interp.proofs.Ahead.{ahead_next}
 use Rattle.tw_interp.proofs.Padding.{at_place}
 
@@ -78,3 +79,7 @@ listed_short [] more [] short = no_values more
 listed_short [] more (value ∷ values) short = absurd (omega (arith, short))
 listed_short (name ∷ names) more [] short = refl
 listed_short (name ∷ names) more (value ∷ values) short = ap (λ (s : Store). with_value s name value) (listed_short names more values (omega (arith, short)))
+
+-- the name of the variable of a place
+pub name_of_var : (vars : List Var) (i : ℕ) (var : Var) → slice_get vars i ≡ Some var → slice_get (map (λ v. v.name.text.now) vars) i ≡ Some var.name.text.now
+name_of_var vars i var at = slice_get-map (λ v. v.name.text.now) vars i ∙ ap (option_map (λ v. v.name.text.now)) at

@@ -5,9 +5,8 @@ use Rattle.std.proofs.lemmas.Bool.{true≢false}
 use Rattle.std.proofs.lemmas.Option.{none-some}
 use Rattle.std.specs.Result.{IsErrAnd}
 use Rattle.tw_text.specs.declared.place.Pos.{Pos}
-use Rattle.tw_syntax.specs.declared.statement.Stmt.{Stmt}
 use Rattle.tw_syntax.specs.Names.{NameTree, PathTree}
-use Rattle.tw_syntax.specs.Statements.{StmtTree, Nothing, Then, Else, LetStmt, IfStmt, BlockStmt, stmt_tree, stmts_tree}
+use Rattle.tw_syntax.specs.Statements.{StmtTree, Nothing, Then, Else, LetStmt, IfStmt, BlockStmt}
 use Rattle.tw_syntax.specs.Terms.{RhsTree}
 use Rattle.tw_types.specs.Values.{Value, Truth}
 use Rattle.tw_resolve.specs.Setting.{Setting}
@@ -20,7 +19,9 @@ use Rattle.tw_state.specs.Steps.{Activation}
 use Rattle.tw_state.specs.Stuck.{Reason, Sticks, StuckIf, StuckIfElse, StuckPad, StuckBlock}
 use Rattle.tw_state.proofs.Basics.{same_some, some_value}
 use Rattle.tw_interp.specs.declared.fault.RunFault.{RunFault}
+use Rattle.tw_interp.specs.declared.numbered.Step.{Step}
 use Rattle.tw_state.specs.Depth.{IsWithin, WithinNothing, WithinThen, WithinElse, WithinExpr, WithinAlloc, WithinCall, WithinCallZero, WithinIf, WithinBlock}
+use Rattle.tw_interp.specs.NumberedTrees.{step_tree, steps_tree}
 use Rattle.tw_interp.specs.Following.{Follows, FollowsInside, FollowsWithin, Goes, PadsAll, Stops}
 use Rattle.tw_interp.proofs.Leading.{Loops, left_step, left_stopped, split_last, split_then}
 
@@ -40,11 +41,11 @@ not_both_truths p q = absurd (true≢false (ap truth_is (same_some p q)))
 within_then : {setting : Setting} {depth own : ℕ} {first rest : StmtTree} → IsWithin setting depth own (Then first rest) → IsWithin setting depth own first × IsWithin setting depth own rest
 within_then (WithinThen a b) = (a, b)
 
-within_last : (setting : Setting) (depth own : ℕ) (stmts : List Stmt) (i : ℕ) (x : Stmt) → slice_get stmts i ≡ Some x → IsWithin setting depth own (stmts_tree (take (suc i) stmts))
-    → IsWithin setting depth own (stmt_tree x) × IsWithin setting depth own (stmts_tree (take i stmts))
+within_last : (setting : Setting) (depth own : ℕ) (steps : List Step) (i : ℕ) (x : Step) → slice_get steps i ≡ Some x → IsWithin setting depth own (steps_tree (take (suc i) steps))
+    → IsWithin setting depth own (step_tree x) × IsWithin setting depth own (steps_tree (take i steps))
 within_last setting depth own [] i x is within = absurd (none-some x is)
 within_last setting depth own (y ∷ ys) zero x is within =
-    let parts = within_then within in (subst (λ z. IsWithin setting depth own (stmt_tree z)) (some_value is) parts.0, WithinNothing)
+    let parts = within_then within in (subst (λ z. IsWithin setting depth own (step_tree z)) (some_value is) parts.0, WithinNothing)
 within_last setting depth own (y ∷ ys) (suc j) x is within =
     let parts = within_then within in
     let rest = within_last setting depth own ys j x is parts.1 in (rest.0, WithinThen parts.0 rest.1)
@@ -53,7 +54,7 @@ pub within_if : {setting : Setting} {depth own : ℕ} {at : Pos} {cond : PathTre
     → (inner : ℕ) × (depth ≡ suc inner) × IsWithin setting inner own first × IsWithin setting inner own other
 within_if (WithinIf {depth = inner} a b) = (inner, refl, a, b)
 
-within_else : {setting : Setting} {depth own : ℕ} {at : Pos} {stmts : StmtTree} → IsWithin setting depth own (Else at stmts) → IsWithin setting depth own stmts
+within_else : {setting : Setting} {depth own : ℕ} {at : Pos} {steps : StmtTree} → IsWithin setting depth own (Else at steps) → IsWithin setting depth own steps
 within_else (WithinElse a) = a
 
 within_block : {setting : Setting} {depth own : ℕ} {at : Pos} {body : StmtTree} → IsWithin setting depth own (BlockStmt at body) → (inner : ℕ) × (depth ≡ suc inner) × IsWithin setting inner own body
@@ -76,9 +77,9 @@ if_directed : (forward : Bool) (at : Pos) (cond : PathTree) (first other : StmtT
 if_directed true at cond first other = refl
 if_directed false at cond first other = refl
 
-else_directed : (forward : Bool) (at : Pos) (stmts : StmtTree) → Else at (directed forward stmts) ≡ directed forward (Else at stmts)
-else_directed true at stmts = refl
-else_directed false at stmts = refl
+else_directed : (forward : Bool) (at : Pos) (steps : StmtTree) → Else at (directed forward steps) ≡ directed forward (Else at steps)
+else_directed true at steps = refl
+else_directed false at steps = refl
 
 nothing_directed : (forward : Bool) → Nothing ≡ directed forward Nothing
 nothing_directed true = refl
@@ -102,16 +103,16 @@ module _ (setting : Setting) (act : Activation) where
       let here = subst (λ t. Loops setting act depth true whole t first now) is loops in
       left_stopped setting act e (split_then setting act s more) here.left (follows (within_then here.within).0)
 
-  pub backward_step : (depth : ℕ) {whole : StmtTree} (stmts : List Stmt) (i : ℕ) (x : Stmt) {first now next : State} → slice_get stmts i ≡ Some x → Loops setting act depth false whole (stmts_tree (take (suc i) stmts)) first now
-      → FollowsWithin {A = Unit {0}} setting act depth false (stmt_tree x) now next (Ok tt) → Loops setting act depth false whole (stmts_tree (take i stmts)) first next
-  backward_step depth stmts i x is loops follows =
-      let parts = within_last setting depth act.bound stmts i x is loops.within in
-      record { within = parts.1; left = left_step setting act (split_last setting act stmts i x is) loops.left (follows parts.0) }
+  pub backward_step : (depth : ℕ) {whole : StmtTree} (steps : List Step) (i : ℕ) (x : Step) {first now next : State} → slice_get steps i ≡ Some x → Loops setting act depth false whole (steps_tree (take (suc i) steps)) first now
+      → FollowsWithin {A = Unit {0}} setting act depth false (step_tree x) now next (Ok tt) → Loops setting act depth false whole (steps_tree (take i steps)) first next
+  backward_step depth steps i x is loops follows =
+      let parts = within_last setting depth act.bound steps i x is loops.within in
+      record { within = parts.1; left = left_step setting act (split_last setting act steps i x is) loops.left (follows parts.0) }
 
-  pub backward_stopped : (depth : ℕ) {whole : StmtTree} (stmts : List Stmt) (i : ℕ) (x : Stmt) {first now next : State} (e : RunFault) → slice_get stmts i ≡ Some x → Loops setting act depth false whole (stmts_tree (take (suc i) stmts)) first now
-      → FollowsWithin {A = Unit {0}} setting act depth false (stmt_tree x) now next (Err e) → Follows {A = Unit {0}} setting act (reverse_of whole) first next (Err e)
-  backward_stopped depth stmts i x e is loops follows =
-      left_stopped setting act e (split_last setting act stmts i x is) loops.left (follows (within_last setting depth act.bound stmts i x is loops.within).0)
+  pub backward_stopped : (depth : ℕ) {whole : StmtTree} (steps : List Step) (i : ℕ) (x : Step) {first now next : State} (e : RunFault) → slice_get steps i ≡ Some x → Loops setting act depth false whole (steps_tree (take (suc i) steps)) first now
+      → FollowsWithin {A = Unit {0}} setting act depth false (step_tree x) now next (Err e) → Follows {A = Unit {0}} setting act (reverse_of whole) first next (Err e)
+  backward_stopped depth steps i x e is loops follows =
+      left_stopped setting act e (split_last setting act steps i x is) loops.left (follows (within_last setting depth act.bound steps i x is loops.within).0)
 
   module _ (at : Pos) (cond : PathTree) (first other : StmtTree) (old new : State) (r : Result (Unit {0}) RunFault) where
     if_untrue : ((is : Bool) → value_at old.store cond ≢ Some (Truth is)) → Follows setting act (IfStmt at cond first other) old new r

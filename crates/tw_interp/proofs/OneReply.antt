@@ -1,8 +1,7 @@
 -- A run has one answer, or is stuck for one reason at one place.
-use Rattle.std.proofs.Common.{◌≡◌, ◌∙◌, ap, sym, refl, ℕ, Bool, true, false, not, Option}
+use Rattle.std.proofs.Common.{◌≡◌, ap, ℕ, Bool, true, false, Option}
 use Rattle.tw_text.specs.declared.place.Pos.{Pos}
 use Rattle.tw_syntax.specs.Programs.{FunTree}
-use Rattle.tw_types.specs.Values.{Value}
 use Rattle.tw_resolve.specs.Setting.{Setting}
 use Rattle.tw_state.specs.FromCode.{ListedState, names_at, live_at, state_at}
 use Rattle.tw_state.specs.Results.{IsTypedAt}

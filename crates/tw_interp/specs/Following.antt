@@ -1,5 +1,5 @@
 -- The answer of a run, in terms of the semantics.
-use Rattle.std.specs.Prelude.{◌≡◌, ◌≢◌, ℕ, suc, Bool, true, false, slice_get, Option, Some, is_some, Result, Ok, Err, OnOk, IfErr}
+use Rattle.std.specs.Prelude.{◌≡◌, ◌≢◌, ℕ, suc, Bool, true, false, slice_get, Option, Some, None, is_some, Result, Ok, Err, OnOk, IfErr}
 use Rattle.std.specs.Str.{bytes_eq}
 use Rattle.tw_text.specs.declared.place.Pos.{Pos}
 use Rattle.tw_syntax.specs.Names.{NameTree}
@@ -22,7 +22,7 @@ use Rattle.tw_interp.specs.declared.fault.Reason.TheVariants as reason
 use Rattle.tw_interp.specs.declared.fault.RunFault.{RunFault}
 use Rattle.tw_interp.specs.declared.fault.RunFault.TheVariants as fault
 use Rattle.tw_state.specs.Depth.{IsWithin}
-use Rattle.tw_interp.specs.Frames.{with_slot}
+use Rattle.tw_interp.specs.Frames.{with_found}
 
 -- the reason that a reason of the code is
 abbrev pub reason_of : ReasonOfCode → Reason
@@ -68,10 +68,15 @@ FollowsInside setting act depth forward s old new result = (inner : ℕ) → dep
 -- the answer to the padding of one name, which has this value or none in the end. Each other name keeps its value, and a fault is that
 -- padding is stuck, or that memory ran out
 pub record PadsName {A : Type 0} (ty : Option Ty) (at : Pos) (name : Name) (is_live : Bool) (old new : State) (result : Result A RunFault) : Type 0 where
-  pub ran : (end : Option Value) → is_some end ≡ is_live → IsPadded ty (old.store name) end → Goes (new ≡ record old { store = with_slot old.store name end }) result
+  pub ran : (end : Option Value) → is_some end ≡ is_live → IsPadded ty (old.store name) end → Goes (new ≡ record old { store = with_found old.store name end }) result
   pub lacks : (t : Ty) (value : Value) → is_live ≡ false → ty ≡ Some t → old.store name ≡ Some value → value ≢ zero_value t → Stops Pad at result
   pub others : OnOk result ((other : Name) → bytes_eq name other ≡ false → new.store other ≡ old.store other)
   pub faults : IfErr result (λ e. Stops {A = A} Pad at (Err e))
+
+-- the answer to the padding of the variable of a number, which has this name; nothing changes if there is none
+abbrev pub PadsSlot : {A : Type 0} → Types → Pos → Option Name → Bool → State → State → Result A RunFault → Type 0
+PadsSlot types at None is_live old new result = Goes (new ≡ old) result
+PadsSlot types at (Some name) is_live old new result = PadsName (types name) at name is_live old new result
 
 -- the answer to the padding of the names of statements
 pub record PadsAll {A : Type 0} (types : Types) (s : StmtTree) (at : Pos) (old new : State) (result : Result A RunFault) : Type 0 where

@@ -1,4 +1,7 @@
 pub mod Frames
+pub mod NumberedTrees
+pub mod Numbered
+pub mod Facts
 pub mod Answers
 pub mod Machines
 pub mod Following

@@ -1,19 +1,22 @@
 //! The values of atoms and expressions.
-ghost use Rattle.std.specs.Prelude.{◌≡◌, IfOk, option_map};
-ghost use Rattle.tw_syntax.specs.Terms.{atom_tree, expr_tree};
+ghost use Rattle.std.specs.Prelude.{◌≡◌, IfOk, List, option_map};
 ghost use Rattle.tw_syntax.specs.Types.{written_tree};
 ghost use Rattle.tw_types.specs.FromCode.{value_of};
 ghost use Rattle.tw_types.specs.Values.{PairValue};
 ghost use Rattle.tw_resolve.specs.Resolved.{resolved_setting};
 ghost use Rattle.tw_state.specs.Evaluation.{atom_value, both, expr_value, zero_of};
 ghost use Rattle.tw_interp.specs.Answers.{Finds, FindsBoth};
+ghost use Rattle.tw_state.specs.States.{Name};
 ghost use Rattle.tw_interp.specs.Frames.{store_of};
+ghost use Rattle.tw_interp.specs.Numbered.{IsFormula, IsOperand};
+ghost use Rattle.tw_interp.specs.NumberedTrees.{formula_tree, operand_tree};
 
+use crate::formula::{Formula, FormulaKind, Operand, OperandKind};
 use crate::frame::Frame;
 use crate::operator::{applied, negated};
 use std::alloc::{AllocError, Global};
 use tw_resolve::Resolved;
-use tw_syntax::{Atom, AtomKind, Expr, ExprKind, Written, WrittenKind};
+use tw_syntax::{Written, WrittenKind};
 use tw_types::{Val, copy_val, zero_of};
 
 /// The pair of two values. An error: out of memory.
@@ -55,42 +58,43 @@ pub fn zero_of_written(
 }
 
 /// The value of an atom. `None` only if it has none. An error: out of memory.
-fn atom(
+fn operand(
     alloc: Global,
     program: &Resolved,
     frame: &Frame,
-    atom: &Atom,
+    operand: &Operand,
 ) -> Result<Option<Val>, AllocError>
-    ensures { IfOk result (λ found. Finds (atom_value (resolved_setting program.now) (store_of frame.now) (atom_tree atom.now)) (option_map value_of found)) }
+    ensures { IfOk result (λ found. (names : List Name) → IsOperand names operand.now → Finds (atom_value (resolved_setting program.now) (store_of names frame.now) (operand_tree operand.now)) (option_map value_of found)) }
 {
-    match &atom.kind {
-        AtomKind::Place(path) => match frame.at(path) {
+    match &operand.kind {
+        OperandKind::Place(path) => match frame.at(path) {
             Some(val) => Ok(Some(copy_val(alloc, val)?)),
             None => Ok(None),
         },
-        AtomKind::Number(number) => Ok(Some(Val::U(*number))),
-        AtomKind::True => Ok(Some(Val::B(true))),
-        AtomKind::False => Ok(Some(Val::B(false))),
-        AtomKind::Unit => Ok(Some(Val::Unit)),
-        AtomKind::Null(_) => Ok(Some(Val::Ptr(0))),
-        AtomKind::Zero(written) => zero_of_written(alloc, program, written),
+        OperandKind::Number(number) => Ok(Some(Val::U(*number))),
+        OperandKind::True => Ok(Some(Val::B(true))),
+        OperandKind::False => Ok(Some(Val::B(false))),
+        OperandKind::Unit => Ok(Some(Val::Unit)),
+        OperandKind::Null(_) => Ok(Some(Val::Ptr(0))),
+        OperandKind::Zero(written) => zero_of_written(alloc, program, written),
     }
 }
 
 /// The values of two atoms. `None` only if one of them has none. An error: out of memory.
-fn atoms(
+fn operands(
     alloc: Global,
     program: &Resolved,
     frame: &Frame,
-    left: &Atom,
-    right: &Atom,
+    left: &Operand,
+    right: &Operand,
 ) -> Result<Option<(Val, Val)>, AllocError>
-    ensures { IfOk result (λ found. FindsBoth (atom_value (resolved_setting program.now) (store_of frame.now) (atom_tree left.now)) (atom_value (resolved_setting program.now) (store_of frame.now) (atom_tree right.now)) (option_map (λ vals. (value_of vals.0, value_of vals.1)) found)) }
+    ensures { IfOk result (λ found. (names : List Name) → IsOperand names left.now → IsOperand names right.now
+        → FindsBoth (atom_value (resolved_setting program.now) (store_of names frame.now) (operand_tree left.now)) (atom_value (resolved_setting program.now) (store_of names frame.now) (operand_tree right.now)) (option_map (λ vals. (value_of vals.0, value_of vals.1)) found)) }
 {
-    let Some(first) = atom(alloc, program, frame, left)? else {
+    let Some(first) = operand(alloc, program, frame, left)? else {
         return Ok(None);
     };
-    let Some(second) = atom(alloc, program, frame, right)? else {
+    let Some(second) = operand(alloc, program, frame, right)? else {
         return Ok(None);
     };
     Ok(Some((first, second)))
@@ -101,21 +105,21 @@ pub fn evaluate(
     alloc: Global,
     program: &Resolved,
     frame: &Frame,
-    expr: &Expr,
+    formula: &Formula,
 ) -> Result<Option<Val>, AllocError>
-    ensures { IfOk result (λ found. Finds (expr_value (resolved_setting program.now) (store_of frame.now) (expr_tree expr.now)) (option_map value_of found)) }
+    ensures { IfOk result (λ found. (names : List Name) → IsFormula names formula.now → Finds (expr_value (resolved_setting program.now) (store_of names frame.now) (formula_tree formula.now)) (option_map value_of found)) }
 {
-    match &expr.kind {
-        ExprKind::One(x) => atom(alloc, program, frame, x),
-        ExprKind::Two(x, y) => match atoms(alloc, program, frame, x, y)? {
+    match &formula.kind {
+        FormulaKind::One(x) => operand(alloc, program, frame, x),
+        FormulaKind::Two(x, y) => match operands(alloc, program, frame, x, y)? {
             Some((first, second)) => Ok(Some(pair(alloc, first, second)?)),
             None => Ok(None),
         },
-        ExprKind::Not(x) => match atom(alloc, program, frame, x)? {
+        FormulaKind::Not(x) => match operand(alloc, program, frame, x)? {
             Some(val) => Ok(negated(&val)),
             None => Ok(None),
         },
-        ExprKind::Op(operator, x, y) => match atoms(alloc, program, frame, x, y)? {
+        FormulaKind::Op(operator, x, y) => match operands(alloc, program, frame, x, y)? {
             Some((left, right)) => Ok(applied(program.widths(), *operator, &left, &right)),
             None => Ok(None),
         },

@@ -13,12 +13,12 @@ use tw_types::{TargetId, Val};
 
 /// Memory, and the variables of the function that runs.
 #[derive(Drop)]
-pub struct Machine<'a> {
+pub struct Machine {
     /// The address of the first free block, or 0.
     pub free: u32,
     /// The cells of blocks 1, 2 and so on.
     pub cells: Vec<Cell>,
-    pub frame: Frame<'a>,
+    pub frame: Frame,
 }
 
 /// Puts a cell in the place of that of a block, and gives that cell. `None` if there is no such block, and then nothing changes.

@@ -1,46 +1,51 @@
 //! Statements that use memory.
 ghost use Rattle.std.specs.Prelude.{◌≡◌, ◌≢◌, true, false, IfOk, Some, option_map};
-ghost use Rattle.tw_syntax.specs.Names.{name_tree, path_tree};
 ghost use Rattle.tw_syntax.specs.Statements.{LetStmt, MemSwapStmt};
 ghost use Rattle.tw_syntax.specs.Terms.{AllocRhs};
-ghost use Rattle.tw_syntax.specs.Types.{written_tree};
+ghost use Rattle.tw_syntax.specs.Types.{WrittenTree};
 ghost use Rattle.tw_types.specs.FromCode.{value_of};
 ghost use Rattle.tw_types.specs.Values.{Address};
+ghost use Rattle.tw_resolve.specs.Declarations.{target_number};
+ghost use Rattle.tw_resolve.specs.Expressions.{type_at_path};
 ghost use Rattle.tw_state.specs.Evaluation.{zero_of_target};
 ghost use Rattle.tw_state.specs.Parts.{value_at};
 ghost use Rattle.tw_interp.specs.Answers.{Finds};
 ghost use Rattle.tw_interp.specs.Following.{Follows, Frees};
-ghost use Rattle.tw_interp.specs.Machines.{activation_of, setting_of, state_of};
+ghost use Rattle.tw_interp.specs.Machines.{activation_of, names_of, setting_of, state_in};
+ghost use Rattle.tw_interp.specs.Numbered.{IsTarget, IsVar, target_of};
+ghost use Rattle.tw_interp.specs.NumberedTrees.{var_path_tree, var_tree};
 
 use crate::activation::Activation;
 use crate::fault::{Reason, RunFault, no_rule, stuck};
 use crate::machine::{Machine, free_cell, replace_cell};
+use crate::variable::{Var, VarPath};
 use std::alloc::AllocError;
 use tw_state::Cell;
-use tw_syntax::{Name, Path, Written};
 use tw_text::Pos;
-use tw_types::{TargetId, Ty, Val, same, zero_of};
+use tw_types::{TargetId, Val, same, zero_of};
 
 /// `*p <-> q;` at a pointer to a block.
-fn swap_block<'a>(
-    act: &Activation<'_, 'a>,
-    machine: &mut Machine<'a>,
+fn swap_block(
+    act: &Activation,
+    machine: &mut Machine,
     at: Pos,
     block: u32,
-    pointer: &Path<'a>,
-    place: &Path<'a>,
+    pointer: &VarPath,
+    place: &VarPath,
+    target: Option<TargetId>,
 ) -> Result<(), RunFault>
-    requires not_null { block ≢ 0 }
-    requires points { value_at (state_of machine.old).store (path_tree pointer.now) ≡ Some (Address block) }
-    ensures { Follows (setting_of act.now) (activation_of act.now) (MemSwapStmt at (path_tree pointer.now) (path_tree place.now)) (state_of machine.old) (state_of machine.new) result }
+    requires { block ≢ 0 }
+    ensures { IsVar (names_of act.now) place.now.root → option_map (λ id. id.0) target ≡ target_of (type_at_path (activation_of act.now).types (var_path_tree pointer.now))
+        → value_at (state_in act.now machine.old).store (var_path_tree pointer.now) ≡ Some (Address block)
+        → Follows (setting_of act.now) (activation_of act.now) (MemSwapStmt at (var_path_tree pointer.now) (var_path_tree place.now)) (state_in act.now machine.old) (state_in act.now machine.new) result }
 {
-    let Some(Ty::Ptr(target)) = act.program.type_of_path(act.fun, pointer) else {
+    let Some(target) = target else {
         return Err(no_rule(at));
     };
     let Some(content) = free_cell(&mut machine.cells, block, target, 0) else {
         return Err(stuck(Reason::Wild, at));
     };
-    let Some(val) = machine.frame.replace_at(place, content)? else {
+    let Some(val) = machine.frame.replace_at(place, content) else {
         return Err(no_rule(at));
     };
     replace_cell(&mut machine.cells, block, Cell::Live(target, val));
@@ -48,48 +53,51 @@ fn swap_block<'a>(
 }
 
 /// `*p <-> q;`: nothing if p is null; else the value of p's block and the value at q change places. A fault: the block is not live
-/// with p's target, or out of memory.
-pub fn swap_memory<'a>(
-    act: &Activation<'_, 'a>,
-    machine: &mut Machine<'a>,
+/// with p's target.
+pub fn swap_memory(
+    act: &Activation,
+    machine: &mut Machine,
     at: Pos,
-    pointer: &Path<'a>,
-    place: &Path<'a>,
+    pointer: &VarPath,
+    place: &VarPath,
+    target: Option<TargetId>,
 ) -> Result<(), RunFault>
-    ensures { Follows (setting_of act.now) (activation_of act.now) (MemSwapStmt at (path_tree pointer.now) (path_tree place.now)) (state_of machine.old) (state_of machine.new) result }
+    ensures { IsVar (names_of act.now) pointer.now.root → IsVar (names_of act.now) place.now.root
+        → option_map (λ id. id.0) target ≡ target_of (type_at_path (activation_of act.now).types (var_path_tree pointer.now))
+        → Follows (setting_of act.now) (activation_of act.now) (MemSwapStmt at (var_path_tree pointer.now) (var_path_tree place.now)) (state_in act.now machine.old) (state_in act.now machine.new) result }
 {
-    let block = match machine.frame.at(pointer) {
-        Some(Val::Ptr(block)) => *block,
-        _ => return Err(no_rule(at)),
+    let Some(block) = machine.frame.address_at(pointer) else {
+        return Err(no_rule(at));
     };
     if block == 0 {
         return Ok(());
     }
-    swap_block(act, machine, at, block, pointer, place)
+    swap_block(act, machine, at, block, pointer, place, target)
 }
 
 /// The zero of the type that a target denotes. `None` only if there is no such target. An error: out of memory.
 fn zero_of_target(act: &Activation, target: TargetId) -> Result<Option<Val>, AllocError>
     ensures { IfOk result (λ found. Finds (zero_of_target (setting_of act.now) target.0) (option_map value_of found)) }
 {
-    match act.program.pointee(target) {
-        Some(ty) => Ok(Some(zero_of(act.alloc, &ty)?)),
+    match act.runner.checked.resolved.pointee(target) {
+        Some(ty) => Ok(Some(zero_of(act.runner.alloc, &ty)?)),
         None => Ok(None),
     }
 }
 
 /// `let x <- alloc<T>;` if a block is free.
-fn allocate_block<'a>(
-    act: &Activation<'_, 'a>,
-    machine: &mut Machine<'a>,
+fn allocate_block(
+    act: &Activation,
+    machine: &mut Machine,
     at: Pos,
-    target: &Name<'a>,
-    written: &Written,
+    target: &Var,
+    to: Option<TargetId>,
 ) -> Result<(), RunFault>
     requires { machine.old.free ≢ 0 }
-    ensures { Follows (setting_of act.now) (activation_of act.now) (LetStmt at true (name_tree target.now) (AllocRhs (written_tree written.now))) (state_of machine.old) (state_of machine.new) result }
+    ensures { (written : WrittenTree) → IsTarget (names_of act.now) target.now → option_map (λ id. id.0) to ≡ target_number (setting_of act.now).scope.targets written
+        → Follows (setting_of act.now) (activation_of act.now) (LetStmt at true (var_tree target.now) (AllocRhs written)) (state_in act.now machine.old) (state_in act.now machine.new) result }
 {
-    let Some(number) = act.program.target_of(act.alloc, written)? else {
+    let Some(number) = to else {
         return Err(no_rule(at));
     };
     let Some(zero) = zero_of_target(act, number)? else {
@@ -101,40 +109,42 @@ fn allocate_block<'a>(
         return Err(no_rule(at));
     };
     machine.free = next;
-    machine.frame.set(target.text, Val::Ptr(block))?;
+    machine.frame.set(target, Val::Ptr(block))?;
     Ok(())
 }
 
 /// `let x <- alloc<T>;`: the first free block becomes live with the zero of T, and x gets its address; x gets null if no block is free.
-/// A fault: out of memory.
-pub fn allocate<'a>(
-    act: &Activation<'_, 'a>,
-    machine: &mut Machine<'a>,
+/// The target T has this number. A fault: out of memory.
+pub fn allocate(
+    act: &Activation,
+    machine: &mut Machine,
     at: Pos,
-    target: &Name<'a>,
-    written: &Written,
+    target: &Var,
+    to: Option<TargetId>,
 ) -> Result<(), RunFault>
-    ensures { Follows (setting_of act.now) (activation_of act.now) (LetStmt at true (name_tree target.now) (AllocRhs (written_tree written.now))) (state_of machine.old) (state_of machine.new) result }
+    ensures { (written : WrittenTree) → IsTarget (names_of act.now) target.now → option_map (λ id. id.0) to ≡ target_number (setting_of act.now).scope.targets written
+        → Follows (setting_of act.now) (activation_of act.now) (LetStmt at true (var_tree target.now) (AllocRhs written)) (state_in act.now machine.old) (state_in act.now machine.new) result }
 {
     if machine.free != 0 {
-        return allocate_block(act, machine, at, target, written);
+        return allocate_block(act, machine, at, target, to);
     }
-    machine.frame.set(target.text, Val::Ptr(0))?;
+    machine.frame.set(target, Val::Ptr(0))?;
     Ok(())
 }
 
 /// `let x -> alloc<T>;` after x was removed, if its block is not null.
 fn free_block(
     act: &Activation,
-    machine: &mut Machine<'_>,
+    machine: &mut Machine,
     at: Pos,
     block: u32,
-    written: &Written,
+    to: Option<TargetId>,
 ) -> Result<(), RunFault>
     requires { block ≢ 0 }
-    ensures { Frees (setting_of act.now) (written_tree written.now) at block (state_of machine.old) (state_of machine.new) result }
+    ensures { (written : WrittenTree) → option_map (λ id. id.0) to ≡ target_number (setting_of act.now).scope.targets written
+        → Frees (setting_of act.now) written at block (state_in act.now machine.old) (state_in act.now machine.new) result }
 {
-    let Some(number) = act.program.target_of(act.alloc, written)? else {
+    let Some(number) = to else {
         return Err(no_rule(at));
     };
     let next = machine.free;
@@ -151,25 +161,26 @@ fn free_block(
     Ok(())
 }
 
-/// `let x -> alloc<T>;`: the block of x becomes the first free one, and x is removed. A fault: x is null although a block is free;
-/// its block is not live with the target T; the value of the block is not zero; or out of memory.
-pub fn free<'a>(
-    act: &Activation<'_, 'a>,
-    machine: &mut Machine<'a>,
+/// `let x -> alloc<T>;`: the block of x becomes the first free one, and x is removed. The target T has this number. A fault: x is null
+/// although a block is free; its block is not live with the target T; the value of the block is not zero; or out of memory.
+pub fn free(
+    act: &Activation,
+    machine: &mut Machine,
     at: Pos,
-    target: &Name<'a>,
-    written: &Written,
+    target: &Var,
+    to: Option<TargetId>,
 ) -> Result<(), RunFault>
-    ensures { Follows (setting_of act.now) (activation_of act.now) (LetStmt at false (name_tree target.now) (AllocRhs (written_tree written.now))) (state_of machine.old) (state_of machine.new) result }
+    ensures { (written : WrittenTree) → IsTarget (names_of act.now) target.now → option_map (λ id. id.0) to ≡ target_number (setting_of act.now).scope.targets written
+        → Follows (setting_of act.now) (activation_of act.now) (LetStmt at false (var_tree target.now) (AllocRhs written)) (state_in act.now machine.old) (state_in act.now machine.new) result }
 {
-    let Some(held) = machine.frame.take(target.text) else {
+    let Some(held) = machine.frame.take(target) else {
         return Err(no_rule(at));
     };
     let Val::Ptr(block) = held else {
         return Err(no_rule(at));
     };
     if block != 0 {
-        return free_block(act, machine, at, block, written);
+        return free_block(act, machine, at, block, to);
     }
     if machine.free != 0 {
         return Err(stuck(Reason::Unmet, at));

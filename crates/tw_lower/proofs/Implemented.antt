@@ -31,8 +31,9 @@ use Rattle.tw_state.proofs.FreeList.{formed_same}
 use Rattle.tw_state.proofs.RenamedResults.{result_renamed}
 use Rattle.tw_state.proofs.Sizes.{length-memory_bits}
 use Rattle.tw_state.proofs.Stores.{name_bits-given, names_bits-with_value}
-use Rattle.tw_frames.specs.declared.regions.WireLayout.{WireLayout}
-use Rattle.tw_frames.specs.Layout.{name_size, layout_with, layout_of, wire_of}
+use Rattle.tw_frames.specs.declared.conjunctions.ConjunctionLayout.{ConjunctionLayout}
+use Rattle.tw_frames.specs.Conjunctions.{conjunction_layout_with, conjunction_layout_of, wire_of}
+use Rattle.tw_frames.specs.Sizes.{name_size}
 use Rattle.tw_frames.proofs.Wires.{AreLive, all_listed, length-name_bits, length-names_bits, bit_at-wire_from, wire_from-after}
 use Rattle.tw_lower.specs.Circuits.{and_gates, stmt_gates, function_gates}
 use Rattle.tw_lower.specs.Correct.{Implements, IsLetAnd, LetAnd, IsConjunction}
@@ -94,24 +95,24 @@ to_zero false = refl
 gates_of_body : (wire : Name → ℕ) (scratch : ℕ) (body : StmtTree) (out left right : Name) → IsLetAnd body out left right → stmt_gates wire scratch body ≡ Some (and_gates (wire left) (wire right) (wire out) scratch)
 gates_of_body wire scratch body out left right LetAnd = refl
 
-layout_of_body : (setting : Setting) (fun : FunTree) (body : StmtTree) (out left right : Name) → IsLetAnd body out left right → layout_of setting (record fun { body = body }) ≡ Some (layout_with setting (record fun { body = body }) 2)
+layout_of_body : (setting : Setting) (fun : FunTree) (body : StmtTree) (out left right : Name) → IsLetAnd body out left right → conjunction_layout_of setting (record fun { body = body }) ≡ Some (conjunction_layout_with setting (record fun { body = body }) 2)
 layout_of_body setting fun body out left right LetAnd = refl
 
-pub layout_of-conjunction : (setting : Setting) {fun : FunTree} {left right : Name} → IsConjunction fun left right → layout_of setting fun ≡ Some (layout_with setting fun 2)
+pub layout_of-conjunction : (setting : Setting) {fun : FunTree} {left right : Name} → IsConjunction fun left right → conjunction_layout_of setting fun ≡ Some (conjunction_layout_with setting fun 2)
 layout_of-conjunction setting {fun} {left} {right} is = layout_of_body setting fun fun.body fun.returned.text left right is.body
 
 -- the gates of the function
 abbrev pub gates_of : Setting → FunTree → Name → Name → List PlainGate
-gates_of setting fun left right = and_gates (wire_of setting fun left) (wire_of setting fun right) (layout_with setting fun 2).out (layout_with setting fun 2).scratch
+gates_of setting fun left right = and_gates (wire_of setting fun left) (wire_of setting fun right) (conjunction_layout_with setting fun 2).out (conjunction_layout_with setting fun 2).scratch
 
 pub function_gates-conjunction : (setting : Setting) {fun : FunTree} {left right : Name} → IsConjunction fun left right → function_gates setting fun ≡ Some (gates_of setting fun left right)
 function_gates-conjunction setting {fun} {left} {right} is =
     let wire = wire_of setting fun in
-    let scratch = (layout_with setting fun 2).scratch in
-    ap (option_and_then (λ (layout : WireLayout). stmt_gates wire layout.scratch fun.body)) (layout_of-conjunction setting is)
+    let scratch = (conjunction_layout_with setting fun 2).scratch in
+    ap (option_and_then (λ (layout : ConjunctionLayout). stmt_gates wire layout.scratch fun.body)) (layout_of-conjunction setting is)
     ∙ gates_of_body wire scratch fun.body fun.returned.text left right is.body
     ∙ ap (λ (out : ℕ). Some (and_gates (wire left) (wire right) out scratch))
-    (wire_from-after setting.widths (fun_types setting fun) fun.returned.text [] (param_names fun) is.fresh (layout_with setting fun 2).args)
+    (wire_from-after setting.widths (fun_types setting fun) fun.returned.text [] (param_names fun) is.fresh (conjunction_layout_with setting fun 2).args)
 
 -- the circuit is the same in both directions
 pub inverse-conjunction : (setting : Setting) (fun : FunTree) (left right : Name) → inverse (gates_of setting fun left right) ≡ gates_of setting fun left right
@@ -134,7 +135,7 @@ bits_given setting fun start is fresh =
 
 module _ {setting : Setting} {fun : FunTree} {left right : Name} (is : IsConjunction fun left right) {start end : State} (has : HasResult setting fun None start end) where
   abbrev wires : ℕ
-  wires = (layout_with setting fun 2).wires
+  wires = (conjunction_layout_with setting fun 2).wires
 
   abbrev memory : List Bool
   memory = memory_bits setting.widths (targets_in setting) start
@@ -162,7 +163,7 @@ module _ {setting : Setting} {fun : FunTree} {left right : Name} (is : IsConjunc
   length_memory = length-memory_bits setting.widths (targets_in setting) start (cells_in setting start.cells has.typed_at_start.typed.each_cell) has.typed_at_start.typed.all_blocks
 
   -- these bits reach up to the result
-  length_prefix : length prefix ≡ (layout_with setting fun 2).out
+  length_prefix : length prefix ≡ (conjunction_layout_with setting fun 2).out
   unfolding prefix
   length_prefix = rw (length-append, length_memory, length-names_bits setting.widths (fun_types setting fun) start.store has.typed_at_start.typed.names (param_names fun) live) refl
 
@@ -216,7 +217,7 @@ module _ {setting : Setting} {fun : FunTree} {left right : Name} (is : IsConjunc
   -- the circuit on the suffix
   changes : (old : Bool) → act (gates_of setting fun left right) (prefix ++ old ∷ false ∷ false ∷ []) ≡ prefix ++ (if bit then not old else old) ∷ false ∷ false ∷ []
   changes old =
-      let layout = layout_with setting fun 2 in
+      let layout = conjunction_layout_with setting fun 2 in
       let next : layout.scratch ≡ length prefix + 1 = omega (arith, length_prefix, size_result) in
       act-and_gates prefix (wire_of setting fun left) (wire_of setting fun right) conjoined.x conjoined.y
       (reads left conjoined.x is.left_known conjoined.left_is) (reads right conjoined.y is.right_known conjoined.right_is)
@@ -235,7 +236,7 @@ module _ {setting : Setting} {fun : FunTree} {left right : Name} (is : IsConjunc
   end_formed = formed_same (sym (ap (λ (state : State). state.head) conjoined.end_is)) (sym (ap (λ (state : State). state.cells) conjoined.end_is)) has.well_formed
 
 -- the circuit of such a function implements it
-pub implements : {setting : Setting} {fun : FunTree} {left right : Name} → IsConjunction fun left right → Implements setting fun None (layout_with setting fun 2).wires (gates_of setting fun left right)
+pub implements : {setting : Setting} {fun : FunTree} {left right : Name} → IsConjunction fun left right → Implements setting fun None (conjunction_layout_with setting fun 2).wires (gates_of setting fun left right)
 implements {setting} {fun} is = record {
   at_start = λ start end has. start_fills is has;
   at_end = λ start end has. end_fills is has;

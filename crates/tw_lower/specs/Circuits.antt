@@ -12,8 +12,8 @@ use Rattle.tw_resolve.specs.Setting.{Setting}
 use Rattle.tw_state.specs.States.{Name}
 use Rattle.tw_state.specs.Derivations.{named}
 use Rattle.tw_state.specs.Examples.{main, main_of, main_setting, setting_at}
-use Rattle.tw_frames.specs.declared.regions.WireLayout.{WireLayout}
-use Rattle.tw_frames.specs.Layout.{layout_of, wire_of}
+use Rattle.tw_frames.specs.declared.conjunctions.ConjunctionLayout.{ConjunctionLayout}
+use Rattle.tw_frames.specs.Conjunctions.{conjunction_layout_of, wire_of}
 
 -- the setup, the work, and the setup uncomputed
 abbrev pub conjugated : List PlainGate → List PlainGate → List PlainGate
@@ -54,7 +54,7 @@ stmt_gates wire scratch other = None
 -- the gates of a function; none if its body is not compiled yet
 abbrev pub function_gates : Setting → FunTree → Option (List PlainGate)
 function_gates setting fun =
-    option_and_then (λ (layout : WireLayout). stmt_gates (wire_of setting fun) layout.scratch fun.body) (layout_of setting fun)
+    option_and_then (λ (layout : ConjunctionLayout). stmt_gates (wire_of setting fun) layout.scratch fun.body) (conjunction_layout_of setting fun)
 
 -- `let c <- a && b;` on the parameters a and b: cx 2 5; cx 3 6; ccx 5 6 4; cx 3 6; cx 2 5
 pub gates_of_main :
@@ -78,7 +78,7 @@ pub gates_of_one_parameter :
     ≡ Some (X (2 ∷ []) 4 ∷ X (2 ∷ []) 5 ∷ X (4 ∷ 5 ∷ []) 3 ∷ X (2 ∷ []) 5 ∷ X (2 ∷ []) 4 ∷ [])
 gates_of_one_parameter = refl
 
-pub wires_of_one_parameter : option_map (λ (layout : WireLayout). layout.wires) (layout_of main_setting one_parameter) ≡ Some 6
+pub wires_of_one_parameter : option_map (λ (layout : ConjunctionLayout). layout.wires) (conjunction_layout_of main_setting one_parameter) ≡ Some 6
 wires_of_one_parameter = refl
 
 -- with addresses of 8 bits: cx 2048 2051; cx 2049 2052; ccx 2051 2052 2050; cx 2049 2052; cx 2048 2051

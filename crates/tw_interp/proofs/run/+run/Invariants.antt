@@ -1,7 +1,8 @@
 use Rattle.std.proofs.Common.{◌+◌, ◌*◌, ◌≤◌, length, drop, take, true, false}
-use Rattle.tw_syntax.specs.Statements.{stmts_tree}
 use Rattle.tw_state.specs.Depth.{IsWithin}
-use Rattle.tw_interp.specs.Machines.{activation_of, setting_of, state_of}
+use Rattle.tw_interp.specs.Machines.{activation_of, setting_of, state_in}
+use Rattle.tw_interp.specs.Numbered.{AreNumbered}
+use Rattle.tw_interp.specs.NumberedTrees.{steps_tree}
 use Rattle.tw_interp.proofs.Leading.{Loops}
 use Rattle.tw_interp.proofs.run.+run.Given as goal
 
@@ -11,8 +12,8 @@ decreases-run_forward l = 5 * l.left + 4
 abbrev pub decreases-run_backward : goal.decreases-run_backward
 decreases-run_backward l = 5 * l.left + 4
 
-abbrev pub decreases-run_stmt : goal.decreases-run_stmt
-decreases-run_stmt l = 5 * l.left + 3
+abbrev pub decreases-run_step : goal.decreases-run_step
+decreases-run_step l = 5 * l.left + 3
 
 abbrev pub decreases-run_if : goal.decreases-run_if
 decreases-run_if l = 5 * l.left + 1
@@ -23,16 +24,18 @@ decreases-run_with l = 5 * l.left + 1
 abbrev pub decreases-run_block : goal.decreases-run_block
 decreases-run_block l = 5 * l.left
 
-abbrev pub invariant-run_forward-loop-stmt : goal.invariant-run_forward-loop-stmt
-invariant-run_forward-loop-stmt l =
-    IsWithin (setting_of l.act) l.left (activation_of l.act).bound (stmts_tree l.stmts)
-    → Loops (setting_of l.act) (activation_of l.act) l.left true (stmts_tree l.stmts) (stmts_tree (drop l.stmt-index l.stmts)) (state_of l.fn.machine) (state_of l.machine)
+abbrev pub invariant-run_forward-loop-step : goal.invariant-run_forward-loop-step
+invariant-run_forward-loop-step l =
+    AreNumbered (setting_of l.act) l.act.fun l.steps
+    → IsWithin (setting_of l.act) l.left (activation_of l.act).bound (steps_tree l.steps)
+    → Loops (setting_of l.act) (activation_of l.act) l.left true (steps_tree l.steps) (steps_tree (drop l.step-index l.steps)) (state_in l.act l.fn.machine) (state_in l.act l.machine)
 
 abbrev pub invariant-run_backward-loop-i : goal.invariant-run_backward-loop-i
 invariant-run_backward-loop-i l =
-    (l.i ≤ length l.stmts)
-    × (IsWithin (setting_of l.act) l.left (activation_of l.act).bound (stmts_tree l.stmts)
-    → Loops (setting_of l.act) (activation_of l.act) l.left false (stmts_tree l.stmts) (stmts_tree (take l.i l.stmts)) (state_of l.fn.machine) (state_of l.machine))
+    (l.i ≤ length l.steps)
+    × (AreNumbered (setting_of l.act) l.act.fun l.steps
+    → IsWithin (setting_of l.act) l.left (activation_of l.act).bound (steps_tree l.steps)
+    → Loops (setting_of l.act) (activation_of l.act) l.left false (steps_tree l.steps) (steps_tree (take l.i l.steps)) (state_in l.act l.fn.machine) (state_in l.act l.machine))
 
 abbrev pub decreases-run_backward-loop-i : goal.decreases-run_backward-loop-i
 decreases-run_backward-loop-i l = l.i

@@ -1,19 +1,24 @@
-use Rattle.std.proofs.Common.{◌∙◌, ap, sym, option_map}
-use Rattle.tw_syntax.specs.Names.{path_tree}
 use Rattle.tw_types.specs.FromCode.{value_of}
 use Rattle.tw_types.specs.Values.{UnitValue}
 use Rattle.tw_interp.specs.Frames.{store_of}
-use Rattle.tw_interp.specs.Machines.{activation_of, setting_of, state_of}
+use Rattle.tw_interp.specs.Machines.{activation_of, names_of, setting_of, state_in}
+use Rattle.tw_interp.specs.NumberedTrees.{var_path_tree}
 use Rattle.tw_interp.proofs.Following.{swap_undefined, swapped}
 use Rattle.tw_interp.proofs.step.swap.Goals as goal
 
-pub returns-in_default-2 : goal.returns-in_default-2
-returns-in_default-2 c =
-    swap_undefined (setting_of c.args.act.now) (activation_of c.args.act.now) c.args.at (path_tree c.args.left.now) (path_tree c.args.right.now) (value_of c.in-Some.x) UnitValue (state_of c.args.machine.now) (store_of c.replace_at.new.self)
-    (sym (ap (option_map value_of) c.in-Some.is) ∙ c.in_ok-x.ensures.old) c.in_ok-x.ensures.value _ _ (sym (ap (option_map value_of) c.in_default-2.is) ∙ c.in_ok-y.ensures.old)
+pub returns-in_default-replace_at : goal.returns-in_default-replace_at
+returns-in_default-replace_at c = λ is_left is_right.
+    let act = c.args.act.now in
+    let names = names_of act in
+    swap_undefined (setting_of act) (activation_of act) c.args.at (var_path_tree c.args.left.now) (var_path_tree c.args.right.now) (value_of c.in-Some.x) UnitValue
+    (state_in act c.args.machine.now) (store_of names c.replace_at.new.self)
+    (c.in-Some.ensures.old names is_left) (c.in-Some.ensures.value names is_left) _ _ (c.in_default-replace_at.ensures.old names is_right)
 
 pub returns : goal.returns
-returns c =
-    swapped (setting_of c.args.act.now) (activation_of c.args.act.now) c.args.at (path_tree c.args.left.now) (path_tree c.args.right.now) (value_of c.in-Some.x) UnitValue (state_of c.args.machine.now) (store_of c.replace_at.new.self)
-    (sym (ap (option_map value_of) c.in-Some.is) ∙ c.in_ok-x.ensures.old) c.in_ok-x.ensures.value (value_of c.in-Some-2.y) (store_of c.replace_at-2.new.self) (store_of c.replace_at-3.new.self)
-    (sym (ap (option_map value_of) c.in-Some-2.is) ∙ c.in_ok-y.ensures.old) c.in_ok-y.ensures.value c.in_ok-replace_at.ensures.value
+returns c = λ is_left is_right.
+    let act = c.args.act.now in
+    let names = names_of act in
+    swapped (setting_of act) (activation_of act) c.args.at (var_path_tree c.args.left.now) (var_path_tree c.args.right.now) (value_of c.in-Some.x) UnitValue
+    (state_in act c.args.machine.now) (store_of names c.replace_at.new.self)
+    (c.in-Some.ensures.old names is_left) (c.in-Some.ensures.value names is_left) (value_of c.in-Some-replace_at.y) (store_of names c.replace_at-2.new.self) (store_of names c.replace_at-3.new.self)
+    (c.in-Some-replace_at.ensures.old names is_right) (c.in-Some-replace_at.ensures.value names is_right) (c.replace_at-3.ensures.value names is_left)
