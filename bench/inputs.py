@@ -19,6 +19,12 @@ def different_functions(size):
     return head + "\n" + "".join(named)
 
 
+def copies(gates):
+    """A program with about so many gates in words of 32 bits: it assigns and un-assigns copies of its parameter."""
+    copy = "  let t <- x;\n  let t -> x;\n"
+    return "fun main(x: uint) -> uint {\n" + copy * (gates // 64) + "  let r <- x;\n  return r;\n}\n"
+
+
 def gate_file(gates, wires):
     """A gate file with so many gates on so many wires. Each gate has 0 to 3 controls."""
     numbers = random.Random(1)

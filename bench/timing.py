@@ -1,15 +1,16 @@
 """How long programs take on a file that they read, for the scripts of this folder."""
+import os
 import subprocess
 import time
 
 
-def best(command, path):
-    """The shortest of five runs of a command with this file as its standard input, in seconds."""
+def best(command, path, written=os.devnull):
+    """The shortest of five runs of a command with the first file as its standard input and the second as its output, in seconds."""
     times = []
     for _ in range(5):
-        with open(path, "rb") as source:
+        with open(path, "rb") as source, open(written, "wb") as output:
             start = time.perf_counter()
-            subprocess.run(command, stdin=source, stdout=subprocess.DEVNULL)
+            subprocess.run(command, stdin=source, stdout=output)
             times.append(time.perf_counter() - start)
     return min(times)
 

@@ -4,6 +4,7 @@ use Rattle.std.specs.Result.{IsErrAnd}
 use Rattle.tw_text.specs.declared.refusal.Refusal.{Refusal}
 use Rattle.tw_text.specs.declared.refusal.Fault.{Fault}
 use Rattle.tw_text.specs.declared.refusal.Fault.TheVariants as source_fault
+use Rattle.tw_text.specs.declared.diagnostic.Diagnostic.{Diagnostic}
 use Rattle.tw_text.specs.declared.diagnostic.Diagnostic.TheVariants as diagnostic
 use Rattle.tw_syntax.specs.Programs.{ProgramTree, program_tree}
 use Rattle.tw_parse.specs.Sources as sources
@@ -17,6 +18,9 @@ use Rattle.tw_check.specs.Rules.{decls_rules}
 use Rattle.tw_check.proofs.RightDecls.{right_exactly_if_none_broken}
 use Rattle.tower.specs.declared.ending.Unanswered.{Unanswered}
 use Rattle.tower.specs.Accepted.{IsAccepted, BreaksFirst, IllTyped, NotRight, IsFoundBroken, NoSource, OnTree, OutOfMemory}
+use Rattle.tower.specs.CircuitEntries as circuits
+use Rattle.tower.specs.CircuitEntries.{HasNoCircuit, IsRefusedEntry, Broken}
+use Rattle.tower.specs.Requests.{FileRequest}
 use Rattle.tower.specs.Outcomes.{Outcome, Refuses}
 use Rattle.tower.specs.Sources as answers
 use Rattle.tower.specs.Sources.{SourceAnswer}
@@ -73,3 +77,25 @@ module _ (widths : Widths) (bytes : List ℕ) where
     did_accept at (source_fault.Refused refusal) result is (OnTree tree same source breaks) =
         as_error taken faults at at result _ (SourceAnswer bytes OnProgram) is (answers.OnTree tree source (broken tree refusal breaks), refl)
     did_accept at source_fault.Memory result is found = as_error taken faults at at result _ (SourceAnswer bytes OnProgram) is refl
+
+-- why there is no circuit, by the call that found it
+pub no_program : (request : FileRequest) (bytes : List ℕ) (why : Fault) → IsFoundBroken request.widths bytes why → HasNoCircuit request bytes (of_source why)
+no_program request bytes (source_fault.Refused refusal) (NoSource same refused) = circuits.NoSource refusal refused
+no_program request bytes (source_fault.Refused refusal) (OnTree tree same source breaks) = circuits.OnTree tree (diagnostic.Refused refusal) source (Broken refusal breaks refl)
+no_program request bytes source_fault.Memory found = circuits.OutOfMemory
+
+-- a call that passes an error on
+pub no_circuit_as : {A : Type 0} (request : FileRequest) (bytes : List ℕ) (error : Unanswered) (result : Result A Unanswered) → IsErrAnd result (λ e. e ≡ error) → HasNoCircuit request bytes error → IfErr result (HasNoCircuit request bytes)
+no_circuit_as request bytes error (Ok found) is none = tt
+no_circuit_as request bytes error (Err other) is none = subst (HasNoCircuit request bytes) (sym is) none
+
+-- a source without a circuit is refused
+pub did_refuse : {K : Type 0} (taken : K → Option (List ℕ)) (faults : K → ℕ) (request : FileRequest) (bytes : List ℕ) (OnProgram : ProgramTree → Outcome → Type 0)
+    → ((tree : ProgramTree) (why : Diagnostic) → IsRefusedEntry request tree why → OnProgram tree (Refuses why))
+    → (at : K) (error : Unanswered) (result : Result (Unit {0}) Unanswered) → IsErrAnd result (λ e. e ≡ error) → HasNoCircuit request bytes error → Did taken faults at at result (SourceAnswer bytes OnProgram)
+did_refuse taken faults request bytes OnProgram refuses at error result is none = as_error taken faults at at result error (SourceAnswer bytes OnProgram) is (by none)
+  where
+    by : {e : Unanswered} → HasNoCircuit request bytes e → Did taken faults at at (Err e) (SourceAnswer bytes OnProgram)
+    by (circuits.NoSource refusal refused) = (answers.NoProgram refusal refused refl, refl)
+    by (circuits.OnTree tree why source is) = (answers.OnTree tree source (refuses tree why is), refl)
+    by circuits.OutOfMemory = refl

@@ -21,6 +21,10 @@ key_among-text key.Entry = refl
 key_among-text key.Bound = refl
 key_among-text key.Inverse = refl
 key_among-text key.Back = refl
+key_among-text key.Level = refl
+key_among-text key.Flatten = refl
+key_among-text key.Narrow = refl
+key_among-text key.Side = refl
 
 pub key_among-is : (word : List ℕ) (list : List Key) (k : Key) → key_among word list ≡ Some k → word ≡ key_text k
 key_among-is word [] k e = cc
@@ -39,7 +43,11 @@ key_at (suc zero) = key.Addr
 key_at (suc (suc zero)) = key.Entry
 key_at (suc (suc (suc zero))) = key.Bound
 key_at (suc (suc (suc (suc zero)))) = key.Inverse
-key_at (suc (suc (suc (suc (suc n))))) = key.Back
+key_at (suc (suc (suc (suc (suc zero))))) = key.Back
+key_at (suc (suc (suc (suc (suc (suc zero)))))) = key.Level
+key_at (suc (suc (suc (suc (suc (suc (suc zero))))))) = key.Flatten
+key_at (suc (suc (suc (suc (suc (suc (suc (suc zero)))))))) = key.Narrow
+key_at (suc (suc (suc (suc (suc (suc (suc (suc (suc n))))))))) = key.Side
 
 key_at-place : (k : Key) → key_at (key_place k) ≡ k
 key_at-place key.Word = refl
@@ -48,6 +56,10 @@ key_at-place key.Entry = refl
 key_at-place key.Bound = refl
 key_at-place key.Inverse = refl
 key_at-place key.Back = refl
+key_at-place key.Level = refl
+key_at-place key.Flatten = refl
+key_at-place key.Narrow = refl
+key_at-place key.Side = refl
 
 pub one_place : (k other : Key) → key_place k ≡ key_place other → k ≡ other
 one_place k other e = sym (key_at-place k) ∙ ap key_at e ∙ key_at-place other

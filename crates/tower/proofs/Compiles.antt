@@ -1,98 +1,188 @@
--- The defined file of a program can be trusted, and it is the one that the code writes.
-use Rattle.std.proofs.Common.{◌≡◌, ◌∙◌, ap, sym, subst, ℕ, ◌+◌, ◌<◌, ◌≤◌, Bool, true, false, List, [], ◌∷◌, length, Some, None, option_map, arith, refl}
+-- A gate file of an entry has what is promised of it. An entry has one layout and one file, or one limit that it passes.
+use Rattle.std.proofs.Common.{◌≡◌, ◌∙◌, ap, sym, subst, subst₂, refl, ℕ, Bool, true, false, List, [], ◌∷◌, Option, None, length}
 use Rattle.std.specs.List.{AllByRecursion}
+use Rattle.std.proofs.lemmas.Option.{none-some}
+use Rattle.std.proofs.Math.Logic.{∥∥₁_elim}
+use Rattle.std.proofs.Math.Nat.{ℕ_set}
+use Rattle.tw_text.specs.declared.refusal.Refusal.{Refusal}
 use Rattle.tw_syntax.specs.Programs.{FunTree, ProgramTree}
 use Rattle.tw_gate.specs.declared.gate.Level.TheVariants as levels
-use Rattle.tw_gate.specs.Gates.{PlainGate, X, directed}
-use Rattle.tw_gate.specs.Weight.{t_count}
-use Rattle.tw_gatetext.specs.Valid.{FitsWires, IsValid}
-use Rattle.tw_gatetext.specs.Text.{File, HasFewControls, file_text}
+use Rattle.tw_gatetext.specs.Text.{File}
+use Rattle.tw_gatetext.specs.Valid.{IsValid}
 use Rattle.tw_gatetext.proofs.Bounds.{file_text-prefix_free}
-use Rattle.tw_types.specs.Types.{Widths}
-use Rattle.tw_resolve.specs.Programs.{setting_of}
+use Rattle.tw_gatetext.proofs.ValidFiles.{valid-inverse}
+use Rattle.tw_types.specs.Types.{AreInRange}
+use Rattle.tw_code.specs.Counts.{neither, counts}
+use Rattle.tw_code.specs.Emission.{emitted}
+use Rattle.tw_code.specs.Rows.{Row, gates_in, most_controls}
+use Rattle.tw_code.specs.Trees.{CodeTree}
+use Rattle.tw_resolve.specs.Demands.{first_broken}
 use Rattle.tw_resolve.specs.Setting.{Setting}
-use Rattle.tw_check.specs.Liveness.{param_names}
-use Rattle.tw_frames.specs.Conjunctions.{conjunction_layout_with}
-use Rattle.tw_lower.specs.Circuits.{and_gates}
-use Rattle.tw_lower.specs.Correct.{Implements, IsConjunction}
-use Rattle.tw_lower.proofs.Implemented.{gates_of, inverse-conjunction, implements}
-use Rattle.tw_lower.proofs.Places.{IsPlain, places, wires-within, t_count-gates}
-use Rattle.tower.specs.Form.{Form, form_file}
-use Rattle.tower.specs.ReadingTree.{form_in}
+use Rattle.tw_resolve.proofs.Each.{each_at}
+use Rattle.tw_check.specs.declared.entry.Entry.{Entry}
+use Rattle.tw_sim.specs.BitLines.{HaveWires}
+use Rattle.tw_state.specs.declared.state.Side.{Side}
+use Rattle.tw_state.specs.EntryEncoding.{encoded_on}
+use Rattle.tw_state.specs.FromCode.{ListedState, live_at, state_at}
+use Rattle.tw_state.specs.Results.{IsTypedAt}
+use Rattle.tw_state.specs.StateLines.{IsState}
+use Rattle.tw_state.specs.States.{State}
+use Rattle.tw_state.proofs.Basics.{same_some}
+use Rattle.tw_state.proofs.EntryFunctions.{function_of}
+use Rattle.tw_state.proofs.EntryResults.{IsSound, IsFunction}
+use Rattle.tw_state.proofs.SoundPrograms.{sound}
+use Rattle.tw_frames.specs.declared.measured.Measured.{Measured}
+use Rattle.tw_frames.specs.declared.regions.WireLayout.{WireLayout}
+use Rattle.tw_frames.specs.Layout.{IsLaidOut}
+use Rattle.tw_frames.specs.Regions.{AreInOrder}
+use Rattle.tw_frames.proofs.OneLayout.{in_order-regions, layout_determined}
+use Rattle.tw_frames.proofs.Reached.{are_frames}
+use Rattle.tw_cost.proofs.OneInventory.{has_inventory_determined}
+use Rattle.tw_lower.specs.Lowering.{LowersEntry, IsBuilt, IsBuiltFun, IsLayout}
+use Rattle.tw_lower.proofs.CheckedEntry.{lowered_entry}
+use Rattle.tw_lower.proofs.Encoded.{length-encoded}
+use Rattle.tw_lower.proofs.EntryFrame.{regions_are, args_at, out_at}
+use Rattle.tw_lower.proofs.LoweredCounts.{entry_counted}
+use Rattle.tw_lower.proofs.OneCode.{one_code}
+use Rattle.tw_lower.proofs.OneProof.{entry_code_prop}
+use Rattle.tw_lower.proofs.SimulatedEntry.{IsEntryCode}
 use Rattle.tower.specs.Requests.{FileRequest}
-use Rattle.tower.specs.Accepted.{IsReady}
-use Rattle.tower.specs.Outcomes.{Prints}
-use Rattle.tower.specs.Compile.{file_of, CompileAnswer, Built, IsCompiled}
+use Rattle.tower.specs.Entries.{EntryIn, setting_in, fun_in}
+use Rattle.tower.specs.CircuitEntries.{HasCircuit, circuit_rules, IsWithinLimits, IsPastLimit, IsBuiltTree}
+use Rattle.tower.specs.Compile.{file_with, IsFileOf, IsCompiled}
+use Rattle.tower.specs.Encode.{encodings}
 use Rattle.tower.proofs.Binds.{some_is}
-use Rattle.tower.proofs.Conjunctions.{entry_is, typed_empty, plain, t_count-directed, conjunction_file, file_of-conjunction, form_file-defined}
-use Rattle.tower.proofs.FirstTrees.{form-sound}
+use Rattle.tower.proofs.Circuits.{are_within, implements, valid}
 
--- the gates are the same in both directions: loads, a flip, and the loads uncomputed
-directed-conjunction : (setting : Setting) (fun : FunTree) (left right : List ℕ) (inverse : Bool) → directed inverse (gates_of setting fun left right) ≡ gates_of setting fun left right
-directed-conjunction setting fun left right true = inverse-conjunction setting fun left right
-directed-conjunction setting fun left right false = refl
+-- what is promised of the file of an entry
+module _ (request : FileRequest) (tree : ProgramTree) (built : IsBuiltTree tree) (found : EntryIn request tree) (range : AreInRange request.widths) where
+  abbrev setting : Setting
+  setting = setting_in found
 
--- the five gates are valid if the operands lie below the result, and the scratch wires after it
-valid_gates : (left right result scratch wires : ℕ) → left < result → right < result → scratch ≡ result + 1 → wires ≡ result + 3 → wires ≤ 2053 →
-    IsValid (record { level = levels.Mcx; wires = wires; t_count = t_count (and_gates left right result scratch); gates = and_gates left right result scratch })
-valid_gates left right result scratch wires left_below right_below behind all few =
-    let load_left : FitsWires wires (X (left ∷ []) scratch) = ((tt, ((λ same. omega arith), tt)), ((omega arith, tt), omega arith)) in
-    let load_right : FitsWires wires (X (right ∷ []) (scratch + 1)) = ((tt, ((λ same. omega arith), tt)), ((omega arith, tt), omega arith)) in
-    let flip_result : FitsWires wires (X (scratch ∷ (scratch + 1) ∷ []) result) =
-    (((omega arith, tt), ((λ same. omega arith), ((λ same. omega arith), tt))), ((omega arith, (omega arith, tt)), omega arith)) in
-    record {
-      some_wires = omega arith;
-      few_wires = omega arith;
-      few_gates = omega arith;
-      fit_level = (omega arith, (omega arith, (omega arith, (omega arith, (omega arith, tt)))));
-      fit_wires = (load_left, (load_right, (flip_result, (load_right, (load_left, tt)))));
-      counted = refl;
-    }
+  abbrev entry : Entry
+  entry = found.entry
 
-valid_file : (wires : ℕ) (gates other : List PlainGate) → other ≡ gates →
-    IsValid (record { level = levels.Mcx; wires = wires; t_count = t_count gates; gates = gates }) → IsValid (record { level = levels.Mcx; wires = wires; t_count = t_count other; gates = other })
-valid_file wires gates other same valid =
-    subst (λ (gates : List PlainGate). IsValid (record { level = levels.Mcx; wires = wires; t_count = t_count gates; gates = gates })) (sym same) valid
+  module _ (rows : List Row) (layout : WireLayout) (circuit : HasCircuit setting entry rows layout) (within : first_broken (circuit_rules found.measured rows layout) ≡ None) where
+    abbrev fun : FunTree
+    fun = circuit.inventory.fun
 
-module _ (setting : Setting) (inverse : Bool) {fun : FunTree} {left right : List ℕ} (is : IsConjunction fun left right) (all_bits : IsPlain setting fun) (narrow : setting.widths.addr ≤ 8) (few : length (param_names fun) ≤ 2) where
-  valid : IsValid (conjunction_file setting inverse fun left right)
-  valid =
-      let at = places setting is all_bits in
-      valid_file _ _ _ (directed-conjunction setting fun left right inverse)
-      (valid_gates _ _ _ _ _ at.left_below at.right_below at.scratch_at at.wires_at (wires-within setting at narrow few))
+    body : IsBuilt fun.body
+    body = (each_at IsBuiltFun setting.funs entry.fun fun built circuit.inventory.at).body
 
--- the defined file of a function of the first form can be trusted
-module _ (request : FileRequest) (setting : Setting) {fun : FunTree} {left right : List ℕ} (is : IsConjunction fun left right) (all_bits : IsPlain setting fun) (no_bound : request.bound ≡ None) (narrow : setting.widths.addr ≤ 8) (few : length (param_names fun) ≤ 2) where
-  file_compiled : IsCompiled request setting fun (conjunction_file setting request.inverse fun left right)
-  file_compiled =
-      let fine = valid setting request.inverse is all_bits narrow few in
-      let gates = gates_of setting fun left right in
-      let wires = (conjunction_layout_with setting fun 2).wires in
-      record {
-        defined = file_of-conjunction setting request.inverse is;
-        valid = fine;
-        only_file = λ other rest more fits same. (file_text-prefix_free other _ rest more fits fine same).0;
-        plain = gates;
-        plain_file = ap (option_map (λ (found : File). found.gates)) (file_of-conjunction setting false is);
+    regions : AreInOrder setting.widths layout
+    regions = subst (AreInOrder setting.widths) (sym circuit.laid_out.is) (in_order-regions setting.widths _)
+
+    -- what has one proof and holds of the function and its layout in a sound program
+    by_sound : {P : Type 0} → IsProp P → (IsSound setting → IsFunction setting fun → IsLayout setting entry layout → P) → P
+    by_sound prop f =
+        ∥∥₁_elim found.typed prop
+        (λ are.
+        let is_sound : IsSound setting = sound request.widths tree found.types are found.ready.accepted.right in
+        let functions = function_of request.widths tree found.types are in
+        f is_sound (functions entry.fun fun circuit.inventory.at) (record {
+          options = neither;
+          level = levels.Mcx;
+          most_controls = most_controls rows;
+          laid_out = circuit.laid_out;
+          within = (are_within found.measured rows layout within).wires;
+          regions = regions;
+          frames = are_frames setting is_sound functions entry neither levels.Mcx (most_controls rows) layout circuit.laid_out;
+        }))
+
+    -- an encoding has a bit for each wire
+    wide : (side : Side) (state : State) → IsTypedAt setting fun (live_at side fun) state → length (encoded_on layout.wires setting side fun state) ≡ layout.wires
+    wide side state typed =
+        by_sound (ℕ_set (length (encoded_on layout.wires setting side fun state)) layout.wires)
+        (λ is_sound is laid.
+        length-encoded setting layout fun (is_sound.fit is.name fun is.named).different (regions_are setting entry layout laid fun circuit.inventory.at) (args_at setting entry layout laid fun circuit.inventory.at)
+        (out_at setting entry layout laid fun circuit.inventory.at) side state typed)
+
+    module _ (code : CodeTree) (lowered : LowersEntry setting layout fun entry.bound code) where
+      is_code : IsEntryCode setting layout fun entry.bound code
+      is_code = by_sound (entry_code_prop setting layout fun entry.bound code) (λ is_sound is laid. lowered_entry setting is_sound entry layout laid fun circuit.inventory.at is body code lowered)
+
+      counted : (wanted : ℕ) → counts neither code 0 wanted ≡ gates_in rows wanted
+      counted wanted =
+          by_sound (ℕ_set (counts neither code 0 wanted) (gates_in rows wanted)) (λ is_sound is laid. entry_counted neither lowered (is_sound.fit is.name fun is.named).body circuit.inventory.is wanted)
+
+      valid_plain : IsValid (file_with false rows layout code)
+      valid_plain = valid setting fun entry.bound layout code is_code rows counted range.addr_from regions (are_within found.measured rows layout within)
+
+      valid_file : (inverse : Bool) → IsValid (file_with inverse rows layout code)
+      valid_file false = valid_plain
+      valid_file true = valid-inverse (file_with false rows layout code) valid_plain
+
+      file_compiled : IsCompiled setting fun entry.bound request.inverse (file_with request.inverse rows layout code)
+      file_compiled = record {
+        valid = valid_file request.inverse;
+        only_file = λ other rest more fits same. (file_text-prefix_free other _ rest more fits (valid_file request.inverse) same).0;
+        plain = emitted code false [];
         direction = refl;
-        implements = subst (λ bound. Implements setting fun bound wires gates) (sym no_bound) (implements is);
-        t_count = sym (t_count-gates setting is) ∙ ap Some (sym (t_count-directed request.inverse gates));
+        implements = implements setting fun entry.bound layout code is_code;
+        rows = rows;
+        inventory = circuit.inventory.is;
+        t_count = refl;
       }
 
-  pub compiled : (file : File) → file_of setting request.inverse fun ≡ Some file → IsCompiled request setting fun file
-  compiled file defined = subst (IsCompiled request setting fun) (some_is _ _ (sym (file_of-conjunction setting request.inverse is) ∙ defined)) file_compiled
+  pub compiled : (file : File) → IsFileOf setting entry found.measured request.inverse file → IsCompiled setting (fun_in found) request.bound request.inverse file
+  compiled file is =
+      let limits = is.limits in
+      let same_fun : limits.circuit.inventory.fun ≡ fun_in found = same_some limits.circuit.inventory.at found.is_entry.is_entry.at in
+      subst (IsCompiled setting (fun_in found) request.bound request.inverse) (sym is.is)
+      (subst₂ (λ (f : FunTree) (b : Option ℕ). IsCompiled setting f b request.inverse (file_with request.inverse limits.rows is.layout is.code)) same_fun found.is_entry.given
+      (file_compiled limits.rows is.layout limits.circuit limits.within is.code is.lowered))
 
--- the file of a form is the answer to its program
-pub built : (request : FileRequest) (tree : ProgramTree) (form : Form) (file : File) → IsReady request tree → form_in tree.decls ≡ Some form → file ≡ form_file request.widths request.inverse form → CompileAnswer request tree (Prints (file_text file))
-built request tree form file ready found is =
-    let reads = form-sound tree.decls form found in
-    let typed = typed_empty request.widths tree reads.fun reads.first ready.accepted.typed in
-    let entry = entry_is request tree ready reads.fun reads.first (λ name. None) in
-    let all_bits = plain request.widths tree (λ name. None) typed ready.accepted.right reads.fun reads.first request.entry entry in
-    Built (λ name. None) reads.fun file ready typed reads.first
-    (form_file-defined (setting_of request.widths tree (λ name. None)) request.inverse form reads.conjunction all_bits reads.names ∙ ap Some (sym is)) refl
+  -- the encodings of states have a bit for each wire
+  pub wide_encodings : (layout : WireLayout) → IsWithinLimits setting entry found.measured layout → (side : Side) (states : List ListedState) → AllByRecursion (IsState setting side (fun_in found)) states
+      → HaveWires layout.wires (encodings layout.wires setting side (fun_in found) states)
+  wide_encodings layout limits side [] each = tt
+  wide_encodings layout limits side (state ∷ states) each =
+      let same_fun : limits.circuit.inventory.fun ≡ fun_in found = same_some limits.circuit.inventory.at found.is_entry.is_entry.at in (
+        subst (λ f. (s : State) → IsTypedAt setting f (live_at side f) s → length (encoded_on layout.wires setting side f s) ≡ layout.wires) same_fun
+            (wide limits.rows layout limits.circuit limits.within side) (state_at side (fun_in found) state) each.0.typed.typed,
+        wide_encodings layout limits side states each.1,
+      )
 
--- and it can be written
-pub few_form : (widths : Widths) (inverse : Bool) (form : Form) → AllByRecursion HasFewControls (form_file widths inverse form).gates
-few_form widths true form = (omega arith, (omega arith, (omega arith, (omega arith, (omega arith, tt)))))
-few_form widths false form = (omega arith, (omega arith, (omega arith, (omega arith, (omega arith, tt)))))
+-- the inventory and the layout of an entry are determined
+module _ (setting : Setting) (entry : Entry) where
+  module _ {rows others : List Row} {layout other : WireLayout} (x : HasCircuit setting entry rows layout) (y : HasCircuit setting entry others other) where
+    same_rows : rows ≡ others
+    same_rows = has_inventory_determined setting neither x.inventory y.inventory
+
+    same_layout : layout ≡ other
+    same_layout = layout_determined setting entry neither levels.Mcx (most_controls others) (subst (λ n. IsLaidOut setting entry neither levels.Mcx n layout) (ap most_controls same_rows) x.laid_out) y.laid_out
+
+    same_fun : x.inventory.fun ≡ y.inventory.fun
+    same_fun = same_some x.inventory.at y.inventory.at
+
+  module _ (measured : Measured) where
+    -- an entry has one layout
+    pub one_layout : {layout other : WireLayout} → IsWithinLimits setting entry measured layout → IsWithinLimits setting entry measured other → layout ≡ other
+    one_layout x y = same_layout x.circuit y.circuit
+
+    -- and one file
+    pub one_file : (inverse : Bool) {file other : File} → IsFileOf setting entry measured inverse file → IsFileOf setting entry measured inverse other → file ≡ other
+    one_file inverse x y = x.is ∙ (λ i. file_with inverse (rows i) (layout i) (code i)) ∙ sym y.is
+      where
+        rows : x.limits.rows ≡ y.limits.rows
+        rows = same_rows x.limits.circuit y.limits.circuit
+
+        layout : x.layout ≡ y.layout
+        layout = one_layout x.limits y.limits
+
+        code : x.code ≡ y.code
+        code = one_code setting y.layout
+            (subst₂ (λ (l : WireLayout) (f : FunTree). LowersEntry setting l f entry.bound x.code) layout (same_fun x.limits.circuit y.limits.circuit) x.lowered) y.lowered
+
+    -- the rules of its circuit are the same
+    same_rules : {rows others : List Row} {layout other : WireLayout} → HasCircuit setting entry rows layout → HasCircuit setting entry others other
+        → first_broken (circuit_rules measured rows layout) ≡ first_broken (circuit_rules measured others other)
+    same_rules x y = λ i. first_broken (circuit_rules measured (same_rows x y i) (same_layout x y i))
+
+    -- an entry is refused by one limit
+    pub one_limit : {refusal other : Refusal} → IsPastLimit setting entry measured refusal → IsPastLimit setting entry measured other → refusal ≡ other
+    one_limit {refusal} {other} x y = some_is refusal other (sym x.broken ∙ same_rules x.circuit y.circuit ∙ y.broken)
+
+    -- and not if it is within all limits
+    pub within_or_past : {P : Type 0} {layout : WireLayout} {refusal : Refusal} → IsWithinLimits setting entry measured layout → IsPastLimit setting entry measured refusal → P
+    within_or_past {refusal = refusal} x y = absurd (none-some refusal (sym x.within ∙ same_rules x.circuit y.circuit ∙ y.broken))

@@ -1,4 +1,3 @@
-pub mod Bools
 pub mod Binds
 pub mod Choices
 pub mod Wanted
@@ -8,15 +7,17 @@ pub mod PlainSources
 pub mod Printable
 pub mod RepliesSoFar
 pub mod Running
+pub mod Entries
+pub mod OneReading
 pub mod OneRun
+pub mod Circuits
+pub mod Compiles
+pub mod Answering
+pub mod Encoding
+pub mod OneEncoding
 pub mod OneAnswer
 pub mod Closing
 pub mod WhenEnded
-pub mod Reading
-pub mod FirstTrees
-pub mod Conjunctions
-pub mod Long
-pub mod Compiles
 pub mod AfterFiles
 pub mod Doing
 pub mod Accepting
@@ -24,3 +25,4 @@ pub mod Marking
 pub mod PrintedRuns
 pub mod Promises
 pub mod Worked
+pub mod WorkedCompile

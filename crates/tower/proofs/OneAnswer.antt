@@ -1,15 +1,14 @@
 -- Arguments and an input have at most one answer.
-use Rattle.std.proofs.Common.{◌≡◌, ◌∙◌, ap, sym, subst, ℕ, ◌<◌, ◌≤◌, Bool, true, List, [], ◌∷◌, ◌++◌, length, map, codes, Some, arith}
+use Rattle.std.proofs.Common.{◌≡◌, ◌∙◌, ap, sym, subst, ℕ, ◌<◌, ◌≤◌, Bool, true, List, [], ◌++◌, length, map, codes, arith}
 use Rattle.tw_text.specs.declared.refusal.Refusal.{Refusal}
 use Rattle.tw_text.specs.declared.diagnostic.Diagnostic.{Diagnostic}
 use Rattle.tw_text.specs.declared.diagnostic.Diagnostic.TheVariants as diagnostic
 use Rattle.tw_text.specs.declared.limits.TheConstants.{INPUT_LIMIT}
-use Rattle.tw_syntax.specs.Programs.{FunTree, FunDecl, ProgramTree}
+use Rattle.tw_syntax.specs.Programs.{ProgramTree}
 use Rattle.tw_parse.specs.Sources.{IsSource}
 use Rattle.tw_parse.proofs.Sources as sources
 use Rattle.tw_types.specs.Types.{Widths, AreInRange}
-use Rattle.tw_resolve.specs.Expressions.{Types}
-use Rattle.tw_resolve.specs.Programs.{IsTyped, IsWellTyped, IsRefused, setting_of}
+use Rattle.tw_resolve.specs.Programs.{IsWellTyped, IsRefused}
 use Rattle.tw_resolve.proofs.Refusals.{one_refusal, typed_not_refused}
 use Rattle.tw_check.proofs.RightDecls.{right_exactly_if_none_broken}
 use Rattle.std.proofs.Math.Logic.{∥∥₁_elim}
@@ -19,35 +18,42 @@ use Rattle.tw_gatetext.specs.Text.{File, file_text}
 use Rattle.tw_gatetext.specs.Files.{BeginsWith}
 use Rattle.tw_gatetext.proofs.Bounds.{file_text-prefix_free}
 use Rattle.tw_gatetext.proofs.Refusals as gates
+use Rattle.tw_frames.specs.declared.regions.WireLayout.{WireLayout}
 use Rattle.tw_sim.specs.BitLines.{bit_lines, AreLinesOf}
 use Rattle.tw_sim.proofs.Laws.{right_not_refused, one_reason, bit_lines-injective}
 use Rattle.tw_state.proofs.TargetTexts.{HasPlainAliases}
 use Rattle.tower.specs.declared.ending.Unanswered.TheVariants as unanswered
 use Rattle.tower.specs.Ending.{of_gates, of_lines}
-use Rattle.tower.specs.Requests.{Request, Format, Check, Compile, Run, Simulate, Invert, FileRequest, Asks}
+use Rattle.tower.specs.Requests.{Request, Format, Check, Compile, Run, Encode, Simulate, Invert, FileRequest, Asks}
 use Rattle.tower.specs.Outcomes.{Outcome, Prints, Refuses}
 use Rattle.tower.specs.Sources.{SourceAnswer, OnTree, NoProgram}
 use Rattle.tower.specs.GateInputs.{GatesAnswer, OnPrefix, WrongLine, PastLimit}
-use Rattle.tower.specs.FirstTree.{IsFirstTree}
 use Rattle.tower.specs.Accepted.{IsAccepted, BreaksFirst, IllTyped, NotRight, IsReady, IsBadEntry}
 use Rattle.tower.specs.Check.{CheckAnswer, Accepted, Broken}
 use Rattle.tower.specs.Format.{FormatAnswer}
 use Rattle.tower.specs.Compile as compile
-use Rattle.tower.specs.Compile.{CompileAnswer, BadEntry, Built, NotBuilt, file_of}
+use Rattle.tower.specs.Compile.{CompileAnswer, IsFileOf, Written}
+use Rattle.tower.specs.CircuitEntries as circuits
+use Rattle.tower.specs.CircuitEntries.{IsBuiltTree, IsPastLimit, IsRefusedEntry, IsWithinLimits, NotBuilt}
+use Rattle.tower.specs.Encode as encode
+use Rattle.tower.specs.Encode.{EncodeAnswer, OnCircuit}
+use Rattle.tower.specs.Entries.{EntryIn, setting_in}
 use Rattle.tower.specs.Marks.{parted}
 use Rattle.tower.specs.Run as run
 use Rattle.tower.specs.Run.{RunAnswer, OnEntry}
 use Rattle.tower.specs.Invert as invert
-use Rattle.tower.specs.Invert.{InvertAnswer, inverse_file}
+use Rattle.tower.specs.Invert.{InvertAnswer}
 use Rattle.tower.specs.Simulate as simulate
 use Rattle.tower.specs.Simulate.{HasLines, LinesAnswer, OnStates, SimulateAnswer, OfLevelT, OnLines, OtherLine}
 use Rattle.tower.specs.Answer.{InputAnswer, Answer, OnInput, TooLong, Usage}
 use Rattle.tower.proofs.Binds.{some_is}
-use Rattle.tower.proofs.Conjunctions.{one_table_of}
+use Rattle.tower.proofs.Compiles.{one_file as one_compiled, one_limit, within_or_past}
+use Rattle.tower.proofs.Entries.{moved}
+use Rattle.tower.proofs.OneEncoding.{one_by_states}
 use Rattle.tower.proofs.OneRequest.{one_request}
 use Rattle.tower.proofs.OneRun.{one_by_entry}
 use Rattle.tower.proofs.PlainSources.{plain_source}
-use Rattle.tower.proofs.Ranges.{run_in_range}
+use Rattle.tower.proofs.Ranges.{run_in_range, encode_in_range}
 
 same_why : (why other : Diagnostic) → unanswered.Refused why ≡ unanswered.Refused other → why ≡ other
 same_why why other e = cc
@@ -57,19 +63,6 @@ by_reason : {outcome other : Outcome} {why next : Diagnostic} → outcome ≡ Re
 by_reason a e b = a ∙ ap Refuses (same_why _ _ e) ∙ sym b
 
 -- programs
-
-one_fun : (f g : FunTree) → FunDecl f ∷ [] ≡ FunDecl g ∷ [] → f ≡ g
-one_fun f g e = cc
-
--- two files that the program defines are equal
-one_defined : (widths : Widths) (inverse : Bool) (tree : ProgramTree) (types other : Types) (f g : FunTree) (file last : File) → ∥ IsTyped widths tree types ∥₁ → ∥ IsTyped widths tree other ∥₁ → IsFirstTree tree f → IsFirstTree tree g →
-    file_of (setting_of widths tree types) inverse f ≡ Some file → file_of (setting_of widths tree other) inverse g ≡ Some last → file ≡ last
-one_defined widths inverse tree types other f g file last t u x y d e =
-    some_is _ _
-    (sym d
-    ∙ ap (λ (found : Types). file_of (setting_of widths tree found) inverse f) (one_table_of widths tree types other t u)
-    ∙ ap (file_of (setting_of widths tree other) inverse) (one_fun f g (sym x.alone ∙ y.alone))
-    ∙ e)
 
 one_format : (tree : ProgramTree) (outcome other : Outcome) → FormatAnswer tree outcome → FormatAnswer tree other → outcome ≡ other
 one_format tree outcome other x y = x ∙ sym y
@@ -103,24 +96,54 @@ one_check widths tree outcome other (Broken refusal x a) (Broken refusal' y b) =
 ready_or_bad : (request : FileRequest) (tree : ProgramTree) (refusal : Refusal) → IsReady request tree → IsBadEntry request tree refusal → ⊥
 ready_or_bad request tree refusal ready bad = let none = ready.entry in let some = bad.broken in cc
 
+-- the entry of a request is refused for one reason
+one_refused_entry : (request : FileRequest) (tree : ProgramTree) (why other : Diagnostic) → IsRefusedEntry request tree why → IsRefusedEntry request tree other → why ≡ other
+one_refused_entry request tree why other (circuits.Broken refusal x a) (circuits.Broken refusal' y b) = a ∙ ap diagnostic.Refused (one_first request.widths tree refusal refusal' x y) ∙ sym b
+one_refused_entry request tree why other (circuits.Broken refusal x a) (circuits.BadEntry refusal' y b) = absurd (accepted_or_broken request.widths tree refusal y.accepted x)
+one_refused_entry request tree why other (circuits.Broken refusal x a) (NotBuilt y none b) = absurd (accepted_or_broken request.widths tree refusal y.accepted x)
+one_refused_entry request tree why other (circuits.Broken refusal x a) (circuits.PastLimit refusal' built found y b) = absurd (accepted_or_broken request.widths tree refusal found.ready.accepted x)
+one_refused_entry request tree why other (circuits.BadEntry refusal x a) (circuits.Broken refusal' y b) = absurd (accepted_or_broken request.widths tree refusal' x.accepted y)
+one_refused_entry request tree why other (circuits.BadEntry refusal x a) (circuits.BadEntry refusal' y b) = a ∙ ap diagnostic.Refused (some_is refusal refusal' (sym x.broken ∙ y.broken)) ∙ sym b
+one_refused_entry request tree why other (circuits.BadEntry refusal x a) (NotBuilt y none b) = absurd (ready_or_bad request tree refusal y x)
+one_refused_entry request tree why other (circuits.BadEntry refusal x a) (circuits.PastLimit refusal' built found y b) = absurd (ready_or_bad request tree refusal found.ready x)
+one_refused_entry request tree why other (NotBuilt x none a) (circuits.Broken refusal y b) = absurd (accepted_or_broken request.widths tree refusal x.accepted y)
+one_refused_entry request tree why other (NotBuilt x none a) (circuits.BadEntry refusal y b) = absurd (ready_or_bad request tree refusal x y)
+one_refused_entry request tree why other (NotBuilt x none a) (NotBuilt y none' b) = a ∙ sym b
+one_refused_entry request tree why other (NotBuilt x none a) (circuits.PastLimit refusal built found y b) = absurd (none built)
+one_refused_entry request tree why other (circuits.PastLimit refusal built found x a) (circuits.Broken refusal' y b) = absurd (accepted_or_broken request.widths tree refusal' found.ready.accepted y)
+one_refused_entry request tree why other (circuits.PastLimit refusal built found x a) (circuits.BadEntry refusal' y b) = absurd (ready_or_bad request tree refusal' found.ready y)
+one_refused_entry request tree why other (circuits.PastLimit refusal built found x a) (NotBuilt y none b) = absurd (none built)
+one_refused_entry request tree why other (circuits.PastLimit refusal built found x a) (circuits.PastLimit refusal' built' found' y b) =
+    a
+    ∙ ap diagnostic.Refused
+    (one_limit (setting_in found') found'.entry found'.measured (moved request tree found found' (λ setting fun entry measured. IsPastLimit setting entry measured refusal) x) y)
+    ∙ sym b
+
+-- an entry with a circuit is not refused
+circuit_or_refused : {P : Type 0} (request : FileRequest) (tree : ProgramTree) (found : EntryIn request tree) (layout : WireLayout) → IsBuiltTree tree → IsWithinLimits (setting_in found) found.entry found.measured layout
+    → (why : Diagnostic) → IsRefusedEntry request tree why → P
+circuit_or_refused request tree found layout built within why (circuits.Broken refusal x a) = absurd (accepted_or_broken request.widths tree refusal found.ready.accepted x)
+circuit_or_refused request tree found layout built within why (circuits.BadEntry refusal x a) = absurd (ready_or_bad request tree refusal found.ready x)
+circuit_or_refused request tree found layout built within why (NotBuilt x none a) = absurd (none built)
+circuit_or_refused request tree found layout built within why (circuits.PastLimit refusal built' found' x a) =
+    within_or_past (setting_in found) found.entry found.measured within (moved request tree found' found (λ setting fun entry measured. IsPastLimit setting entry measured refusal) x)
+
 one_compile : (request : FileRequest) (tree : ProgramTree) (outcome other : Outcome) → CompileAnswer request tree outcome → CompileAnswer request tree other → outcome ≡ other
-one_compile request tree outcome other (compile.Broken refusal x a) (compile.Broken refusal' y b) = a ∙ ap refused_as (one_first request.widths tree refusal refusal' x y) ∙ sym b
-one_compile request tree outcome other (compile.Broken refusal x a) (BadEntry refusal' y b) = absurd (accepted_or_broken request.widths tree refusal y.accepted x)
-one_compile request tree outcome other (compile.Broken refusal x a) (Built types g file y t is d b) = absurd (accepted_or_broken request.widths tree refusal y.accepted x)
-one_compile request tree outcome other (compile.Broken refusal x a) (NotBuilt y none b) = absurd (accepted_or_broken request.widths tree refusal y.accepted x)
-one_compile request tree outcome other (BadEntry refusal x a) (compile.Broken refusal' y b) = absurd (accepted_or_broken request.widths tree refusal' x.accepted y)
-one_compile request tree outcome other (BadEntry refusal x a) (BadEntry refusal' y b) = a ∙ ap refused_as (some_is refusal refusal' (sym x.broken ∙ y.broken)) ∙ sym b
-one_compile request tree outcome other (BadEntry refusal x a) (Built types g file y t is d b) = absurd (ready_or_bad request tree refusal y x)
-one_compile request tree outcome other (BadEntry refusal x a) (NotBuilt y none b) = absurd (ready_or_bad request tree refusal y x)
-one_compile request tree outcome other (Built types f file x t is d a) (compile.Broken refusal y b) = absurd (accepted_or_broken request.widths tree refusal x.accepted y)
-one_compile request tree outcome other (Built types f file x t is d a) (BadEntry refusal y b) = absurd (ready_or_bad request tree refusal x y)
-one_compile request tree outcome other (Built types f file x t is d a) (Built types' g last y t' is' d' b) =
-    a ∙ ap (λ (found : File). Prints (file_text found)) (one_defined request.widths request.inverse tree types types' f g file last t t' is is' d d') ∙ sym b
-one_compile request tree outcome other (Built types f file x t is d a) (NotBuilt y none b) = absurd (none f is)
-one_compile request tree outcome other (NotBuilt x none a) (compile.Broken refusal y b) = absurd (accepted_or_broken request.widths tree refusal x.accepted y)
-one_compile request tree outcome other (NotBuilt x none a) (BadEntry refusal y b) = absurd (ready_or_bad request tree refusal x y)
-one_compile request tree outcome other (NotBuilt x none a) (Built types g file y t is d b) = absurd (none g is)
-one_compile request tree outcome other (NotBuilt x none a) (NotBuilt y none' b) = a ∙ sym b
+one_compile request tree outcome other (compile.NoCircuit why x a) (compile.NoCircuit why' y b) = a ∙ ap Refuses (one_refused_entry request tree why why' x y) ∙ sym b
+one_compile request tree outcome other (compile.NoCircuit why x a) (Written built found file y b) = circuit_or_refused request tree found y.layout built y.limits why x
+one_compile request tree outcome other (Written built found file x a) (compile.NoCircuit why y b) = circuit_or_refused request tree found x.layout built x.limits why y
+one_compile request tree outcome other (Written built found file x a) (Written built' found' file' y b) =
+    a
+    ∙ ap (λ f. Prints (file_text f))
+    (one_compiled (setting_in found') found'.entry found'.measured request.inverse (moved request tree found found' (λ setting fun entry measured. IsFileOf setting entry measured request.inverse file) x) y)
+    ∙ sym b
+
+one_encode : (request : FileRequest) (lines : List ℕ) (tree : ProgramTree) → AreInRange request.widths → HasPlainAliases tree → (outcome other : Outcome) → EncodeAnswer request lines tree outcome → EncodeAnswer request lines tree other → outcome ≡ other
+one_encode request lines tree range plain outcome other (encode.NoCircuit why x a) (encode.NoCircuit why' y b) = a ∙ ap Refuses (one_refused_entry request tree why why' x y) ∙ sym b
+one_encode request lines tree range plain outcome other (encode.NoCircuit why x a) (OnCircuit built found layout within y) = circuit_or_refused request tree found layout built within why x
+one_encode request lines tree range plain outcome other (OnCircuit built found layout within x) (encode.NoCircuit why y b) = circuit_or_refused request tree found layout built within why y
+one_encode request lines tree range plain outcome other (OnCircuit built found layout within x) (OnCircuit built' found' layout' within' y) =
+    one_by_states request tree found found' range plain lines layout layout' within within' outcome other x y
 
 one_run : (request : FileRequest) (lines : List ℕ) (tree : ProgramTree) → AreInRange request.widths → HasPlainAliases tree → (outcome other : Outcome) → RunAnswer request lines tree outcome → RunAnswer request lines tree other → outcome ≡ other
 one_run request lines tree range plain outcome other (run.Broken refusal x a) (run.Broken refusal' y b) = a ∙ ap refused_as (one_first request.widths tree refusal refusal' x y) ∙ sym b
@@ -223,6 +246,9 @@ one_input words (Compile file) asks bytes outcome other x y = one_source bytes (
 one_input words (Run file) asks bytes outcome other x y =
     one_source (parted true bytes).0 (RunAnswer file (parted true bytes).1) outcome other
     (λ tree source. one_run file (parted true bytes).1 tree (run_in_range words file asks) (plain_source (parted true bytes).0 tree source) outcome other) x y
+one_input words (Encode file) asks bytes outcome other x y =
+    one_source (parted true bytes).0 (EncodeAnswer file (parted true bytes).1) outcome other
+    (λ tree source. one_encode file (parted true bytes).1 tree (encode_in_range words file asks) (plain_source (parted true bytes).0 tree source) outcome other) x y
 one_input words Simulate asks bytes outcome other x y = one_gates bytes SimulateAnswer outcome other (λ file rest. one_simulate file rest outcome other) x y
 one_input words Invert asks bytes outcome other x y = one_gates bytes InvertAnswer outcome other (λ file rest. one_invert file rest outcome other) x y
 

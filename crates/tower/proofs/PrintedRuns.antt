@@ -14,7 +14,8 @@ use Rattle.tower.specs.Outcomes.{Outcome, Prints, PrintsStuck, Refuses, rule_sta
 use Rattle.tower.specs.Sources.{SourceAnswer, OnTree, NoProgram}
 use Rattle.tower.specs.Marks.{parted}
 use Rattle.tower.specs.Run as run
-use Rattle.tower.specs.Run.{EntryIn, setting_in, fun_in, EntryAnswer, WrongStates, Replied, RunAnswer, OnEntry, Ran, is_one_stuck}
+use Rattle.tower.specs.Entries.{EntryIn, setting_in, fun_in}
+use Rattle.tower.specs.Run.{EntryAnswer, WrongStates, Replied, RunAnswer, OnEntry, Ran, is_one_stuck}
 use Rattle.tower.specs.Answer.{InputAnswer, Answer, OnInput, TooLong, Usage, GaveWhole, Answered, IsCutShort}
 use Rattle.tower.proofs.OneRequest.{one_request}
 use Rattle.tower.proofs.WhenEnded.{if_told, told_answer}

@@ -1,11 +1,8 @@
 -- What was printed has the properties that `tower_main` promises.
-use Rattle.std.proofs.Common.{◌≡◌, ◌≢◌, ◌∙◌, ◌≤◌, ap, sym, subst, ℕ, ◌⊎◌, inl, inr, List, length, Option, IfSome, refl}
+use Rattle.std.proofs.Common.{◌≡◌, ◌≢◌, ◌∙◌, ap, sym, subst, ℕ, ◌⊎◌, inl, inr, List, Option, IfSome, refl, true}
 use Rattle.tw_io.specs.Devices.{Appends}
 use Rattle.tw_text.specs.declared.diagnostic.Diagnostic.{Diagnostic}
-use Rattle.std.proofs.lemmas.List.{length-map}
-use Rattle.tw_syntax.specs.Programs.{FunTree, ProgramTree}
-use Rattle.tw_resolve.specs.Programs.{setting_of}
-use Rattle.tw_check.specs.Liveness.{param_names}
+use Rattle.tw_syntax.specs.Programs.{ProgramTree}
 use Rattle.tw_parse.specs.Sources.{IsSource}
 use Rattle.tw_print.proofs.ReadBack.{reads_back}
 use Rattle.tw_gate.specs.declared.gate.Level.TheVariants as levels
@@ -14,28 +11,33 @@ use Rattle.tw_gate.proofs.Inverse.{inverse-twice}
 use Rattle.tw_gatetext.specs.Text.{File}
 use Rattle.tw_gatetext.specs.Files.{BeginsWith}
 use Rattle.tw_gatetext.proofs.ValidFiles.{valid-inverse, classical, permutes-file}
+use Rattle.tw_frames.specs.declared.regions.WireLayout.{WireLayout}
+use Rattle.tw_interp.specs.Runs.{first_side}
 use Rattle.tower.specs.declared.status.Status.{Status}
 use Rattle.tower.specs.declared.status.Status.TheVariants as status
-use Rattle.tower.specs.Requests.{FileRequest, Request, Format, Check, Compile, Run, Simulate, Invert, Asks}
+use Rattle.tower.specs.Requests.{FileRequest, Request, Format, Check, Compile, Run, Encode, Simulate, Invert, Asks}
 use Rattle.tower.specs.Outcomes.{Outcome, Prints, PrintsStuck, Refuses, outcome_status, outcome_text}
 use Rattle.tower.specs.Sources.{SourceAnswer, OnTree, NoProgram}
 use Rattle.tower.specs.GateInputs.{GatesAnswer, OnPrefix, WrongLine, PastLimit}
-use Rattle.tw_types.specs.Types.{Widths}
+use Rattle.tw_types.specs.Types.{Widths, AreInRange}
 use Rattle.tower.specs.Check.{CheckAnswer, Accepted, Broken, Checked}
 use Rattle.tower.specs.Format.{FormatAnswer, Formatted}
 use Rattle.tower.specs.Compile as compile
-use Rattle.tower.specs.Compile.{CompileAnswer, BadEntry, Built, NotBuilt, Compiled}
-use Rattle.tower.specs.FirstTree.{IsFirstTree}
+use Rattle.tower.specs.Compile.{CompileAnswer, Written, Compiled}
+use Rattle.tower.specs.CircuitEntries.{IsBuiltTree, IsWithinLimits}
+use Rattle.tower.specs.Encode as encode
+use Rattle.tower.specs.Encode.{StatesAnswer, Encoded, EncodeAnswer, OnCircuit, EncodedStates}
+use Rattle.tower.specs.Entries.{EntryIn, setting_in, fun_in}
+use Rattle.tower.specs.Marks.{parted}
 use Rattle.tower.specs.Run.{Ran}
 use Rattle.tower.specs.Invert as invert
-use Rattle.tower.specs.Invert.{InvertAnswer, Inverted, inverse_file}
+use Rattle.tower.specs.Invert.{InvertAnswer, Inverted}
 use Rattle.tower.specs.Simulate as simulate
 use Rattle.tower.specs.Simulate.{HasLines, LinesAnswer, OnStates, SimulateAnswer, OfLevelT, OnLines, OtherLine, Simulated}
 use Rattle.tower.specs.Answer.{InputAnswer, Answer, OnInput, TooLong, Usage, GaveWhole, Answered, IsCutShort}
-use Rattle.tower.proofs.Compiles.{compiled}
-use Rattle.tower.proofs.Conjunctions.{entry_is, no_bound, plain}
+use Rattle.tower.proofs.Compiles.{compiled, wide_encodings}
 use Rattle.tower.proofs.OneRequest.{one_request}
-use Rattle.tower.proofs.Ranges.{widths_in_range}
+use Rattle.tower.proofs.Ranges.{widths_in_range, encode_in_range}
 use Rattle.tower.proofs.PrintedRuns.{runs}
 use Rattle.tower.proofs.WhenEnded.{if_told, told_answer, refusal_not_ok}
 
@@ -44,9 +46,6 @@ text_is text other e = cc
 
 no_text : (text : List ℕ) (why : Diagnostic) → Prints text ≡ Refuses why → ⊥
 no_text text why e = cc
-
-few_names : (fun : FunTree) {tree : ProgramTree} → IsFirstTree tree fun → length (param_names fun) ≤ 2
-few_names fun first = subst (λ (n : ℕ). n ≤ 2) (sym (length-map fun.params (λ param. param.name.text))) first.one_or_two.1
 
 module _ (bytes text : List ℕ) (before now : Option (List ℕ)) (took : Appends before now text) where
   formats : SourceAnswer bytes FormatAnswer (Prints text) → Formatted bytes before now
@@ -61,30 +60,49 @@ module _ (bytes text : List ℕ) (before now : Option (List ℕ)) (took : Append
   checks widths (OnTree tree source is) = checks_tree widths tree source is
   checks widths (NoProgram refusal refused e) = absurd (no_text text _ e)
 
-  compiles_tree : (request : FileRequest) → request.widths.addr ≤ 8 → (tree : ProgramTree) → IsSource bytes tree → CompileAnswer request tree (Prints text) → Compiled request bytes before now
-  compiles_tree request narrow tree source (Built types fun file ready typed first defined e) =
-      let entry = entry_is request tree ready fun first types in
-      let all_bits = plain request.widths tree types typed ready.accepted.right fun first request.entry entry in
-      record {
-        tree = tree;
-        source = source;
-        ready = ready;
-        types = types;
-        typed = typed;
-        fun = fun;
-        entry = entry;
-        first = first;
-        file = file;
-        printed = subst (Appends before now) (text_is text _ e) took;
-        compiled = compiled request (setting_of request.widths tree types) first.conjunction all_bits (no_bound request tree ready fun first) narrow (few_names fun first) file defined;
-      }
-  compiles_tree request narrow tree source (NotBuilt ready none e) = absurd (no_text text _ e)
-  compiles_tree request narrow tree source (compile.Broken refusal broken e) = absurd (no_text text _ e)
-  compiles_tree request narrow tree source (BadEntry refusal bad e) = absurd (no_text text _ e)
+  compiles_tree : (request : FileRequest) → AreInRange request.widths → (tree : ProgramTree) → IsSource bytes tree → CompileAnswer request tree (Prints text) → Compiled request bytes before now
+  compiles_tree request range tree source (compile.NoCircuit why refused e) = absurd (no_text text _ e)
+  compiles_tree request range tree source (Written built found file is e) = record {
+    tree = tree;
+    source = source;
+    built = built;
+    found = found;
+    layout = is.layout;
+    limits = is.limits;
+    file = file;
+    level = ap (λ f. f.level) is.is;
+    wires = ap (λ f. f.wires) is.is;
+    printed = subst (Appends before now) (text_is text _ e) took;
+    compiled = compiled request tree built found range file is;
+  }
 
-  compiles : (request : FileRequest) → request.widths.addr ≤ 8 → SourceAnswer bytes (CompileAnswer request) (Prints text) → Compiled request bytes before now
-  compiles request narrow (OnTree tree source is) = compiles_tree request narrow tree source is
-  compiles request narrow (NoProgram refusal refused e) = absurd (no_text text _ e)
+  compiles : (request : FileRequest) → AreInRange request.widths → SourceAnswer bytes (CompileAnswer request) (Prints text) → Compiled request bytes before now
+  compiles request range (OnTree tree source is) = compiles_tree request range tree source is
+  compiles request range (NoProgram refusal refused e) = absurd (no_text text _ e)
+
+  encodes_states : (request : FileRequest) → AreInRange request.widths → (tree : ProgramTree) → IsSource (parted true bytes).0 tree → IsBuiltTree tree → (found : EntryIn request tree) (layout : WireLayout)
+      → IsWithinLimits (setting_in found) found.entry found.measured layout → StatesAnswer layout.wires (setting_in found) (first_side request.inverse) (fun_in found) (parted true bytes).1 (Prints text) → EncodedStates request bytes before now
+  encodes_states request range tree source built found layout limits (encode.WrongStates fault why refused is e) = absurd (no_text text _ e)
+  encodes_states request range tree source built found layout limits (Encoded states are e) = record {
+    tree = tree;
+    source = source;
+    built = built;
+    found = found;
+    layout = layout;
+    limits = limits;
+    states = states;
+    are_states = are;
+    printed = subst (Appends before now) (text_is text _ e) took;
+    wide = wide_encodings request tree built found range layout limits (first_side request.inverse) states are.each;
+  }
+
+  encodes_tree : (request : FileRequest) → AreInRange request.widths → (tree : ProgramTree) → IsSource (parted true bytes).0 tree → EncodeAnswer request (parted true bytes).1 tree (Prints text) → EncodedStates request bytes before now
+  encodes_tree request range tree source (encode.NoCircuit why refused e) = absurd (no_text text _ e)
+  encodes_tree request range tree source (OnCircuit built found layout limits is) = encodes_states request range tree source built found layout limits is
+
+  encodes : (request : FileRequest) → AreInRange request.widths → SourceAnswer (parted true bytes).0 (EncodeAnswer request (parted true bytes).1) (Prints text) → EncodedStates request bytes before now
+  encodes request range (OnTree tree source is) = encodes_tree request range tree source is
+  encodes request range (NoProgram refusal refused e) = absurd (no_text text _ e)
 
   inverts_file : (file : File) (rest : List ℕ) → BeginsWith bytes file rest → InvertAnswer file rest (Prints text) → Inverted bytes before now
   inverts_file file rest begins (invert.AtEnd end e) = record {
@@ -140,14 +158,16 @@ Promise Format before now bytes = Formatted bytes before now
 Promise (Check widths) before now bytes = Checked widths bytes before now
 Promise (Compile request) before now bytes = Compiled request bytes before now
 Promise (Run request) before now bytes = Ran request bytes before now
+Promise (Encode request) before now bytes = EncodedStates request bytes before now
 Promise Simulate before now bytes = Simulated bytes before now
 Promise Invert before now bytes = Inverted bytes before now
 
 kept : (request : Request) (words : List (List ℕ)) (bytes text : List ℕ) (before now : Option (List ℕ)) → Asks words request → Appends before now text → InputAnswer request bytes (Prints text) → Promise request before now bytes
 kept Format words bytes text before now asks took is = formats bytes text before now took is
 kept (Check widths) words bytes text before now asks took is = checks bytes text before now took widths is
-kept (Compile request) words bytes text before now asks took is = compiles bytes text before now took request (widths_in_range words request asks).addr_to is
+kept (Compile request) words bytes text before now asks took is = compiles bytes text before now took request (widths_in_range words request asks) is
 kept (Run request) words bytes text before now asks took is = runs bytes text before now took request (Prints text) refl (no_text text) is
+kept (Encode request) words bytes text before now asks took is = encodes bytes text before now took request (encode_in_range words request asks) is
 kept Simulate words bytes text before now asks took is = simulates bytes text before now took is
 kept Invert words bytes text before now asks took is = inverts bytes text before now took is
 

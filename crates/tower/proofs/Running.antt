@@ -2,7 +2,6 @@
 use Rattle.std.proofs.Common.{◌≡◌, ◌∙◌, ap, sym, subst, subst₂, refl, arith, ℕ, ◌+◌, ◌≤◌, ◌==◌, ◌⊎◌, inl, inr, Bool, true, false, ◌||◌, if◌then◌else◌, List, [], ◌∷◌, ◌++◌, length, length-append, map, codes, Option, Some, None, option_and_then, Result, Ok, Err, slice_get}
 use Rattle.std.specs.List.{AllByRecursion, list_any}
 use Rattle.std.specs.Result.{IsErrAnd}
-use Rattle.std.proofs.Math.Logic.{∥∥₁_elim, ∥∥₁_prop}
 use Rattle.tw_io.specs.Devices.{Wrote}
 use Rattle.tw_io.specs.declared.device.WriteFault.{WriteFault}
 use Rattle.tw_text.specs.Prefix.{after}
@@ -11,12 +10,12 @@ use Rattle.tw_text.specs.declared.refusal.Refusal.{Refusal}
 use Rattle.tw_text.specs.declared.refusal.Fault.{Fault}
 use Rattle.tw_text.specs.declared.refusal.Fault.TheVariants as source_fault
 use Rattle.tw_text.specs.declared.diagnostic.Diagnostic.TheVariants as diagnostic
-use Rattle.tw_syntax.specs.Programs.{FunTree, ProgramTree, program_tree}
-use Rattle.tw_types.specs.Types.{Widths, Ty}
-use Rattle.tw_resolve.specs.Declarations.{Name, funs_of}
-use Rattle.tw_resolve.specs.Demands.{first_broken, IsReported}
+use Rattle.tw_syntax.specs.Programs.{FunTree, program_tree}
+use Rattle.tw_types.specs.Types.{Widths}
+use Rattle.tw_resolve.specs.Declarations.{funs_of}
+use Rattle.tw_resolve.specs.Demands.{first_broken}
 use Rattle.tw_resolve.specs.Entries.{types_in}
-use Rattle.tw_resolve.specs.Programs.{IsTyped, setting_of}
+use Rattle.tw_resolve.specs.Programs.{setting_of}
 use Rattle.tw_resolve.specs.Resolved.{resolved_setting}
 use Rattle.tw_resolve.specs.Setting.{Setting}
 use Rattle.tw_check.specs.declared.checked.Checked.{Checked}
@@ -41,9 +40,10 @@ use Rattle.tower.specs.Accepted.{IsReady}
 use Rattle.tower.specs.Outcomes.{Outcome, Prints, PrintsStuck, Refuses, outcome_status, outcome_text}
 use Rattle.tower.specs.Ending.{of_source, of_states, Did, Printed}
 use Rattle.tower.specs.Marks.{after_end, after_mark, parted_at, parted}
-use Rattle.tower.specs.Run.{Reply, is_stuck, is_one_stuck, replies_text, replied, EntryIn, EntryAnswer, PastLimit, WrongStates, Replied, RunAnswer, OnEntry}
+use Rattle.tower.specs.Run.{Reply, is_stuck, is_one_stuck, replies_text, replied, EntryAnswer, WrongStates, Replied, RunAnswer, OnEntry}
 use Rattle.tower.specs.Replies.{AreRepliesOf, WroteReplies, reply_seen}
 use Rattle.tower.proofs.Doing.{as_error}
+use Rattle.tower.proofs.Entries.{found_entry}
 
 -- the parts of an input
 
@@ -158,28 +158,11 @@ module _ {K : Type 0} (taken : K → Option (List ℕ)) (faults : K → ℕ) (se
         let broken = wrote_text (Err fault) wrote in
         as_error taken faults old new result unanswered.WriteFault Answers is (record { outcome = outcome; answer = answer; took = broken.broken; cause = broken.cause })
 
--- an entry that was found and measured
+-- an answer of an entry that was found and measured
 module _ (checked : Checked) (request : FileRequest) (same : checked.resolved.tables.types.widths ≡ request.widths) (ready : IsReady request (program_tree checked.resolved.program.now)) (entry : Entry)
     (is_entry : IsEntryOf (funs_of (program_tree checked.resolved.program.now).decls) request.entry request.bound entry) (measured : Measured) (measures : IsMeasured (resolved_setting checked.resolved) entry measured) where
-  abbrev tree : ProgramTree
-  tree = program_tree checked.resolved.program.now
-
-  abbrev types : Name → Option Ty
-  types = types_in checked.resolved.tables.types.table.entries
-
-  abbrev pub found_entry : EntryIn request tree
-  found_entry = record {
-    ready = ready;
-    types = types;
-    typed = subst (λ (w : Widths). ∥ IsTyped w tree types ∥₁) same (∥∥₁_elim checked.resolved.typed ∥∥₁_prop (λ are. ∣ are.typed ∣₁));
-    entry = entry;
-    is_entry = is_entry;
-    measured = measured;
-    measures = subst (λ (w : Widths). IsMeasured (setting_of w tree types) entry measured) same measures;
-  }
-
-  pub by_entry : (lines : List ℕ) (outcome : Outcome) → EntryAnswer (resolved_setting checked.resolved) is_entry.is_entry.fun entry.bound request.inverse measured lines outcome → RunAnswer request lines tree outcome
-  by_entry lines outcome is = OnEntry found_entry (subst₂ (λ (w : Widths) (b : Option ℕ). EntryAnswer (setting_of w tree types) is_entry.is_entry.fun b request.inverse measured lines outcome) same is_entry.given is)
+  pub by_entry : (lines : List ℕ) (outcome : Outcome) → EntryAnswer (resolved_setting checked.resolved) is_entry.is_entry.fun entry.bound request.inverse measured lines outcome → RunAnswer request lines (program_tree checked.resolved.program.now) outcome
+  by_entry lines outcome is = OnEntry (found_entry checked request same ready entry is_entry measured measures) (subst₂ (λ (w : Widths) (b : Option ℕ). EntryAnswer (setting_of w (program_tree checked.resolved.program.now) (types_in checked.resolved.tables.types.table.entries)) is_entry.is_entry.fun b request.inverse measured lines outcome) same is_entry.given is)
 
 -- a limit that the measure of an entry passes
 pub did_measure : {K : Type 0} (taken : K → Option (List ℕ)) (faults : K → ℕ) (at : K) (fault : Fault) (result : Result (Unit {0}) Unanswered) (IsAnswer : Outcome → Type 0) → IsErrAnd result (λ e. e ≡ of_source fault)

@@ -81,11 +81,11 @@ no_number most text none (Some n) set = none n set.in_range (head_is _ _ [] [] s
 
 -- options and settings
 
-one_entry : (e f : Option (List ℕ)) → option_to_list e ≡ option_to_list f → e ≡ f
-one_entry None None e = refl
-one_entry (Some x) (Some y) e = ap Some (head_is _ _ [] [] e)
-one_entry None (Some y) e = absurd (nil_cons _ _ e)
-one_entry (Some x) None e = absurd (nil_cons _ _ (sym e))
+one_text : (e f : Option (List ℕ)) → option_to_list e ≡ option_to_list f → e ≡ f
+one_text None None e = refl
+one_text (Some x) (Some y) e = ap Some (head_is _ _ [] [] e)
+one_text None (Some y) e = absurd (nil_cons _ _ e)
+one_text (Some x) None e = absurd (nil_cons _ _ (sym e))
 
 one_flag : (x y : Bool) → ◌≡◌ {A = List (List ℕ)} (if x then [] ∷ [] else []) (if y then [] ∷ [] else []) → x ≡ y
 one_flag true true e = refl
@@ -93,9 +93,19 @@ one_flag false false e = refl
 one_flag true false e = cc
 one_flag false true e = cc
 
-same_settings : (w w' : Option Widths) (e e' : Option (List ℕ)) (b b' : Option ℕ) (i i' k k' : Bool) → w ≡ w' → e ≡ e' → b ≡ b' → i ≡ i' → k ≡ k' →
-    ◌≡◌ {A = Settings} (record { widths = w; entry = e; bound = b; inverse = i; back = k }) (record { widths = w'; entry = e'; bound = b'; inverse = i'; back = k' })
-same_settings w w' e e' b b' i i' k k' p q r s t = cc
+-- settings are determined by their fields
+same_settings : (x y : Settings) → x.widths ≡ y.widths → x.entry ≡ y.entry → x.bound ≡ y.bound → x.inverse ≡ y.inverse → x.back ≡ y.back → x.level ≡ y.level → x.flatten ≡ y.flatten → x.narrow ≡ y.narrow → x.side ≡ y.side → x ≡ y
+same_settings x y widths entry bound inverse back level flatten narrow side = λ i. record {
+  widths = widths i;
+  entry = entry i;
+  bound = bound i;
+  inverse = inverse i;
+  back = back i;
+  level = level i;
+  flatten = flatten i;
+  narrow = narrow i;
+  side = side i;
+}
 
 -- arguments are the options of at most one settings
 pub one_settings : (words : List (List ℕ)) (settings other : Settings) → AreOptions words settings → AreOptions words other → settings ≡ other
@@ -103,12 +113,16 @@ one_settings words settings other x y = by_rest (continues x.choices y.choices [
   where
     by_values : ((k : Key) → wanted settings k ≡ wanted other k) → settings ≡ other
     by_values same =
-        same_settings _ _ _ _ _ _ _ _ _ _
+        same_settings settings other
         (one_widths settings.widths other.widths x.widths_in_range y.widths_in_range (same key.Word) (same key.Addr))
-        (one_entry settings.entry other.entry (same key.Entry))
+        (one_text settings.entry other.entry (same key.Entry))
         (one_number greatest_bound settings.bound other.bound (omega arith) x.bound_in_range y.bound_in_range (same key.Bound))
         (one_flag settings.inverse other.inverse (same key.Inverse))
         (one_flag settings.back other.back (same key.Back))
+        (one_text settings.level other.level (same key.Level))
+        (one_text settings.flatten other.flatten (same key.Flatten))
+        (one_text settings.narrow other.narrow (same key.Narrow))
+        (one_text settings.side other.side (same key.Side))
 
     by_rest : Continues x.choices y.choices [] → settings ≡ other
     by_rest further = by_list further.more further.spelled further.each
@@ -139,6 +153,10 @@ wanted_once settings key.Entry = once _
 wanted_once settings key.Bound = once _
 wanted_once settings key.Inverse = flag_once settings.inverse
 wanted_once settings key.Back = flag_once settings.back
+wanted_once settings key.Level = once _
+wanted_once settings key.Flatten = once _
+wanted_once settings key.Narrow = once _
+wanted_once settings key.Side = once _
 
 -- arguments of which one is no option, or is given twice, make no settings
 pub no_options : (words : List (List ℕ)) → AreNotGiven words → (settings : Settings) → AreOptions words settings → ⊥
@@ -155,16 +173,26 @@ pub no_bound : (words : List (List ℕ)) (values : List (Option (Bor (List ℕ))
     → ((bound : Option ℕ) → SetNumber greatest_bound (given_to values key.Bound) bound → ⊥) → (settings : Settings) → AreOptions words settings → ⊥
 no_bound words values given none settings are = none settings.bound (record { is = same_given words values settings given are key.Bound; in_range = are.bound_in_range })
 
+-- the settings have the values of these options
+pub record HaveValues (values : List (Option (Bor (List ℕ)))) (settings : code.Settings) : Type 0 where
+  pub widths : SetWidths (given_to values key.Word) (given_to values key.Addr) settings.widths
+  pub bound : SetNumber greatest_bound (given_to values key.Bound) settings.bound
+  pub entry : settings.entry ≡ value_given values key.Entry
+  pub inverse : settings.inverse ≡ is_some (value_given values key.Inverse)
+  pub back : settings.back ≡ is_some (value_given values key.Back)
+  pub level : settings.level ≡ value_given values key.Level
+  pub flatten : settings.flatten ≡ value_given values key.Flatten
+  pub narrow : settings.narrow ≡ value_given values key.Narrow
+  pub side : settings.side ≡ value_given values key.Side
+
 -- options that were read make the settings with their values
-pub are_options : (words : List (List ℕ)) (values : List (Option (Bor (List ℕ)))) (settings : code.Settings) → AreGiven words [] values
-    → SetWidths (given_to values key.Word) (given_to values key.Addr) settings.widths → SetNumber greatest_bound (given_to values key.Bound) settings.bound
-    → settings.entry ≡ value_given values key.Entry → settings.inverse ≡ is_some (value_given values key.Inverse) → settings.back ≡ is_some (value_given values key.Back) → AreOptions words (settings_seen settings)
-are_options words values settings given widths bound entry inverse back = record {
+pub are_options : (words : List (List ℕ)) (values : List (Option (Bor (List ℕ)))) (settings : code.Settings) → AreGiven words [] values → HaveValues values settings → AreOptions words (settings_seen settings)
+are_options words values settings given have = record {
   choices = given.choices;
   spelled = given.spelled ∙ append-nil _;
   values = λ k. given.each k ∙ each k;
-  widths_in_range = widths.in_range;
-  bound_in_range = bound.in_range;
+  widths_in_range = have.widths.in_range;
+  bound_in_range = have.bound.in_range;
 }
   where
     flag : (value : Option (Bor (List ℕ))) → ◌≡◌ {A = List (List ℕ)} (option_to_list (option_map (λ (text : Bor (List ℕ)). []) value)) (if is_some value then [] ∷ [] else [])
@@ -175,9 +203,13 @@ are_options words values settings given widths bound entry inverse back = record
     flag_value is = if is then [] ∷ [] else []
 
     each : (k : Key) → given_to values k ≡ wanted (settings_seen settings) k
-    each key.Word = widths.word_is
-    each key.Addr = widths.addr_is
-    each key.Entry = ap value_text (sym entry)
-    each key.Bound = bound.is
-    each key.Inverse = flag (value_given values key.Inverse) ∙ ap flag_value (sym inverse)
-    each key.Back = flag (value_given values key.Back) ∙ ap flag_value (sym back)
+    each key.Word = have.widths.word_is
+    each key.Addr = have.widths.addr_is
+    each key.Entry = ap value_text (sym have.entry)
+    each key.Bound = have.bound.is
+    each key.Inverse = flag (value_given values key.Inverse) ∙ ap flag_value (sym have.inverse)
+    each key.Back = flag (value_given values key.Back) ∙ ap flag_value (sym have.back)
+    each key.Level = ap value_text (sym have.level)
+    each key.Flatten = ap value_text (sym have.flatten)
+    each key.Narrow = ap value_text (sym have.narrow)
+    each key.Side = ap value_text (sym have.side)

@@ -7,13 +7,14 @@ use Rattle.tw_text.specs.declared.diagnostic.Diagnostic.{Diagnostic}
 use Rattle.tw_text.specs.declared.diagnostic.Diagnostic.TheVariants as diagnostic
 use Rattle.tw_syntax.specs.Programs.{FunTree, ProgramTree}
 use Rattle.tw_resolve.specs.Setting.{Setting}
+use Rattle.tw_state.specs.declared.state.Side.{Side}
 use Rattle.tw_state.specs.declared.state_fault.StateFault.{StateFault}
 use Rattle.tw_state.specs.declared.state_fault.StateFault.TheVariants as state_fault
 use Rattle.tw_frames.specs.declared.measured.Measured.{Measured}
 use Rattle.tw_gatetext.specs.Text.{File}
 use Rattle.tower.specs.declared.status.Status.{Status}
 use Rattle.tower.specs.declared.status.Status.TheVariants as status
-use Rattle.tower.specs.Requests.{FileRequest, Request, Format, Check, Compile, Run, Simulate, Invert, IsUsage}
+use Rattle.tower.specs.Requests.{FileRequest, Request, Format, Check, Compile, Run, Encode, Simulate, Invert, IsUsage}
 use Rattle.tower.specs.Outcomes.{Outcome, Prints, PrintsStuck, Refuses, rule_status, refusal_status, outcome_status}
 use Rattle.tower.specs.Sources.{SourceAnswer, OnTree, NoProgram}
 use Rattle.tower.specs.GateInputs.{GatesAnswer, OnPrefix, WrongLine, PastLimit}
@@ -21,7 +22,11 @@ use Rattle.tw_types.specs.Types.{Widths}
 use Rattle.tower.specs.Check.{CheckAnswer, Accepted, Broken}
 use Rattle.tower.specs.Format.{FormatAnswer}
 use Rattle.tower.specs.Compile as compile
-use Rattle.tower.specs.Compile.{CompileAnswer, BadEntry, Built, NotBuilt}
+use Rattle.tower.specs.Compile.{CompileAnswer, Written}
+use Rattle.tower.specs.CircuitEntries as circuits
+use Rattle.tower.specs.CircuitEntries.{IsRefusedEntry, NotBuilt}
+use Rattle.tower.specs.Encode as encode
+use Rattle.tower.specs.Encode.{StatesAnswer, Encoded, EncodeAnswer, OnCircuit}
 use Rattle.tower.specs.Marks.{parted}
 use Rattle.tower.specs.Run as run
 use Rattle.tower.specs.Run.{RunAnswer, EntryAnswer, OnEntry, WrongStates, Replied, state_refusal, is_one_stuck}
@@ -77,16 +82,28 @@ check-not_usage : (widths : Widths) (tree : ProgramTree) (outcome : Outcome) →
 check-not_usage widths tree outcome (Accepted accepted e) = ap not_usage e
 check-not_usage widths tree outcome (Broken refusal broken e) = ap not_usage e
 
+refused_entry-not_usage : (request : FileRequest) (tree : ProgramTree) (why : Diagnostic) → IsRefusedEntry request tree why → not_usage (Refuses why) ≡ true
+refused_entry-not_usage request tree why (circuits.Broken refusal x is) = ap (λ w. not_usage (Refuses w)) is
+refused_entry-not_usage request tree why (circuits.BadEntry refusal x is) = ap (λ w. not_usage (Refuses w)) is
+refused_entry-not_usage request tree why (NotBuilt ready none is) = ap (λ w. not_usage (Refuses w)) is
+refused_entry-not_usage request tree why (circuits.PastLimit refusal built found x is) = ap (λ w. not_usage (Refuses w)) is
+
 compile-not_usage : (request : FileRequest) (tree : ProgramTree) (outcome : Outcome) → CompileAnswer request tree outcome → not_usage outcome ≡ true
-compile-not_usage request tree outcome (compile.Broken refusal broken e) = ap not_usage e
-compile-not_usage request tree outcome (BadEntry refusal bad e) = ap not_usage e
-compile-not_usage request tree outcome (Built types fun file ready typed first defined e) = ap not_usage e
-compile-not_usage request tree outcome (NotBuilt ready none e) = ap not_usage e
+compile-not_usage request tree outcome (compile.NoCircuit why refused e) = ap not_usage e ∙ refused_entry-not_usage request tree why refused
+compile-not_usage request tree outcome (Written built found file is e) = ap not_usage e
 
 state_refusal-not_usage : (fault : StateFault) (why : Diagnostic) → state_refusal fault ≡ Some why → not_usage (Refuses why) ≡ true
 state_refusal-not_usage (state_fault.BadState line reason) why e = ap not_usage (ap Refuses (sym (some_is _ why e)))
 state_refusal-not_usage state_fault.TooMany why e = ap not_usage (ap Refuses (sym (some_is _ why e)))
 state_refusal-not_usage state_fault.Memory why e = cc
+
+states-not_usage : (wires : ℕ) (setting : Setting) (side : Side) (fun : FunTree) (lines : List ℕ) (outcome : Outcome) → StatesAnswer wires setting side fun lines outcome → not_usage outcome ≡ true
+states-not_usage wires setting side fun lines outcome (encode.WrongStates fault why refused is e) = ap not_usage e ∙ state_refusal-not_usage fault why is
+states-not_usage wires setting side fun lines outcome (Encoded states are e) = ap not_usage e
+
+encode-not_usage : (request : FileRequest) (lines : List ℕ) (tree : ProgramTree) (outcome : Outcome) → EncodeAnswer request lines tree outcome → not_usage outcome ≡ true
+encode-not_usage request lines tree outcome (encode.NoCircuit why refused e) = ap not_usage e ∙ refused_entry-not_usage request tree why refused
+encode-not_usage request lines tree outcome (OnCircuit built found layout within is) = states-not_usage _ _ _ _ lines outcome is
 
 replied-not_usage : (stuck : Bool) (text : List ℕ) → not_usage (if stuck then PrintsStuck text else Prints text) ≡ true
 replied-not_usage true text = refl
@@ -111,6 +128,7 @@ input-not_usage Format bytes outcome is = source-not_usage bytes FormatAnswer ou
 input-not_usage (Check widths) bytes outcome is = source-not_usage bytes (CheckAnswer widths) outcome (λ tree. check-not_usage widths tree outcome) is
 input-not_usage (Compile file) bytes outcome is = source-not_usage bytes (CompileAnswer file) outcome (λ tree. compile-not_usage file tree outcome) is
 input-not_usage (Run file) bytes outcome is = source-not_usage (parted true bytes).0 (RunAnswer file (parted true bytes).1) outcome (λ tree. run-not_usage file (parted true bytes).1 tree outcome) is
+input-not_usage (Encode file) bytes outcome is = source-not_usage (parted true bytes).0 (EncodeAnswer file (parted true bytes).1) outcome (λ tree. encode-not_usage file (parted true bytes).1 tree outcome) is
 input-not_usage Simulate bytes outcome is = gates-not_usage bytes SimulateAnswer outcome (λ file rest. simulate-not_usage file rest outcome) is
 input-not_usage Invert bytes outcome is = gates-not_usage bytes InvertAnswer outcome (λ file rest. invert-not_usage file rest outcome) is
 

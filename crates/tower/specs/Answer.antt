@@ -10,7 +10,7 @@ use Rattle.tw_text.specs.Places.{first_place}
 use Rattle.tw_text.specs.Refusals.{passed}
 use Rattle.tower.specs.declared.status.Status.{Status}
 use Rattle.tower.specs.declared.status.Status.TheVariants as status
-use Rattle.tower.specs.Requests.{Request, Format, Check, Compile, Run, Simulate, Invert, Asks, IsUsage}
+use Rattle.tower.specs.Requests.{Request, Format, Check, Compile, Run, Encode, Simulate, Invert, Asks, IsUsage}
 use Rattle.tower.specs.Outcomes.{Outcome, Prints, PrintsStuck, Refuses, outcome_status, outcome_text, refusal_status}
 use Rattle.tower.specs.Sources.{SourceAnswer}
 use Rattle.tower.specs.GateInputs.{GatesAnswer}
@@ -19,6 +19,7 @@ use Rattle.tower.specs.Check.{CheckAnswer}
 use Rattle.tower.specs.Compile.{CompileAnswer}
 use Rattle.tower.specs.Marks.{parted}
 use Rattle.tower.specs.Run.{RunAnswer}
+use Rattle.tower.specs.Encode.{EncodeAnswer}
 use Rattle.tower.specs.Simulate.{SimulateAnswer}
 use Rattle.tower.specs.Invert.{InvertAnswer}
 
@@ -28,6 +29,7 @@ InputAnswer Format bytes outcome = SourceAnswer bytes FormatAnswer outcome
 InputAnswer (Check widths) bytes outcome = SourceAnswer bytes (CheckAnswer widths) outcome
 InputAnswer (Compile file) bytes outcome = SourceAnswer bytes (CompileAnswer file) outcome
 InputAnswer (Run file) bytes outcome = SourceAnswer (parted true bytes).0 (RunAnswer file (parted true bytes).1) outcome
+InputAnswer (Encode file) bytes outcome = SourceAnswer (parted true bytes).0 (EncodeAnswer file (parted true bytes).1) outcome
 InputAnswer Simulate bytes outcome = GatesAnswer bytes SimulateAnswer outcome
 InputAnswer Invert bytes outcome = GatesAnswer bytes InvertAnswer outcome
 

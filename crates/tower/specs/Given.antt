@@ -10,16 +10,24 @@ use Rattle.tower.specs.declared.settings.Settings as code
 use Rattle.tower.specs.declared.request.Options.{Options}
 use Rattle.tower.specs.declared.request.Command.{Command}
 use Rattle.tower.specs.declared.request.Command.TheVariants as command
-use Rattle.tower.specs.Requests.{FileRequest, Request, Format, Check, Compile, Run, Simulate, Invert, Settings, Choice, key_text, is_flag, key_place, choice_words, values_of, number_value}
+use Rattle.tower.specs.Requests.{FileRequest, Request, Format, Check, Compile, Run, Encode, Simulate, Invert, Settings, Choice, key_text, is_flag, key_place, choice_words, values_of, number_value}
+
+-- the value of an option, in the code
+abbrev pub text_seen : Option (Bor (List ℕ)) → Option (List ℕ)
+text_seen value = option_map (λ text. text.now) value
 
 -- the settings that the code's are
 abbrev pub settings_seen : code.Settings → Settings
 settings_seen settings = record {
   widths = settings.widths;
-  entry = option_map (λ entry. entry.now) settings.entry;
+  entry = text_seen settings.entry;
   bound = settings.bound;
   inverse = settings.inverse;
   back = settings.back;
+  level = text_seen settings.level;
+  flatten = text_seen settings.flatten;
+  narrow = text_seen settings.narrow;
+  side = text_seen settings.side;
 }
 
 -- the request that the options of the code are
@@ -31,12 +39,13 @@ request_of command.Format = Format
 request_of (command.Check widths) = Check widths
 request_of (command.Compile options) = Compile (file_request options)
 request_of (command.Run options) = Run (file_request options)
+request_of (command.Encode options) = Encode (file_request options)
 request_of command.Simulate = Simulate
 request_of command.Invert = Invert
 
 -- all keys, by their places
 abbrev pub keys : List Key
-keys = key.Word ∷ key.Addr ∷ key.Entry ∷ key.Bound ∷ key.Inverse ∷ key.Back ∷ []
+keys = key.Word ∷ key.Addr ∷ key.Entry ∷ key.Bound ∷ key.Inverse ∷ key.Back ∷ key.Level ∷ key.Flatten ∷ key.Narrow ∷ key.Side ∷ []
 
 -- the first of these keys with this text
 abbrev pub key_among : List ℕ → List Key → Option Key
@@ -75,7 +84,7 @@ AreNotGiven words = (choices : List Choice) → words ≡ flat_map choice_words 
 
 -- a value that is given or not, as a list
 abbrev pub value_text : Option (Bor (List ℕ)) → List (List ℕ)
-value_text value = option_to_list (option_map (λ text. text.now) value)
+value_text value = option_to_list (text_seen value)
 
 -- a word width and an address width spell these widths
 pub record SpellWidths (word addr : List ℕ) (widths : Widths) : Type 0 where

@@ -8,8 +8,8 @@ use Rattle.tw_types.specs.Types.{Widths, AreInRange}
 use Rattle.tower.specs.declared.options.Key.{Key}
 use Rattle.tower.specs.declared.options.Key.TheVariants as key
 
--- the entry that a request names: the widths, the function and the number of its bound, and whether its inverse is wanted: the inverse
--- file, or the run back
+-- the entry that a request names: the widths, the function and the number of its bound, and whether the request is for its inverse:
+-- the inverse file, the run back, or the states at its end
 pub record FileRequest : Type 0 where
   pub widths : Widths
   pub entry : List ℕ
@@ -22,6 +22,7 @@ pub data Request : Type 0 where
   Check : (widths : Widths) → Request
   Compile : (file : FileRequest) → Request
   Run : (file : FileRequest) → Request
+  Encode : (file : FileRequest) → Request
   Simulate : Request
   Invert : Request
 
@@ -32,14 +33,37 @@ pub record Settings : Type 0 where
   pub bound : Option ℕ
   pub inverse : Bool
   pub back : Bool
+  pub level : Option (List ℕ)
+  pub flatten : Option (List ℕ)
+  pub narrow : Option (List ℕ)
+  pub side : Option (List ℕ)
 
 -- no option is given
 abbrev pub is_empty : Settings → Bool
-is_empty settings = not (is_some settings.widths) && not (is_some settings.entry) && not (is_some settings.bound) && not settings.inverse && not settings.back
+is_empty settings =
+    not (is_some settings.widths) && not (is_some settings.entry) && not (is_some settings.bound) && not settings.inverse && not settings.back
+    && not (is_some settings.level) && not (is_some settings.flatten) && not (is_some settings.narrow) && not (is_some settings.side)
 
--- a request without options
-abbrev pub request_alone : Request → Settings → Option Request
-request_alone request settings = if is_empty settings then Some request else None
+-- the settings without those of an entry, and without those of its circuit
+abbrev pub without_entry : Settings → Settings
+without_entry settings = record settings { widths = None; entry = None; bound = None }
+
+abbrev pub without_circuit : Settings → Settings
+without_circuit settings = record (without_entry settings) { level = None; flatten = None; narrow = None }
+
+-- the option is not given, or its value is this text
+abbrev pub is_unset_or : List ℕ → Option (List ℕ) → Bool
+is_unset_or text None = true
+is_unset_or text (Some value) = bytes_eq value text
+
+-- circuits are built at level `mcx`, without flattening and without narrowing
+abbrev pub is_as_built : Settings → Bool
+is_as_built settings = is_unset_or (codes "mcx") settings.level && is_unset_or (codes "off") settings.flatten && is_unset_or (codes "off") settings.narrow
+
+-- whether the value of `--side` is the end; it is the start if the option is not given
+abbrev pub is_at_end : Option (List ℕ) → Option Bool
+is_at_end None = Some false
+is_at_end (Some side) = if bytes_eq side (codes "in") then Some false else if bytes_eq side (codes "out") then Some true else None
 
 -- the request of `check`: the widths are needed, and no other option is allowed
 abbrev pub check_request : Settings → Option Request
@@ -54,23 +78,42 @@ entry_request inverse settings = option_and_then (λ widths. option_map (λ entr
   inverse = inverse;
 }) settings.entry) settings.widths
 
--- the request of `compile`, and that of `run`; each has a flag of its own for the inverse
+-- the request of `compile`
 abbrev pub compile_request : Settings → Option Request
-compile_request settings = if settings.back then None else option_map Compile (entry_request settings.inverse settings)
+compile_request settings =
+    if is_as_built settings && is_empty (record (without_circuit settings) { inverse = false }) then option_map Compile (entry_request settings.inverse settings) else None
 
+-- the request of `run`
 abbrev pub run_request : Settings → Option Request
-run_request settings = if settings.inverse then None else option_map Run (entry_request settings.back settings)
+run_request settings = if is_empty (record (without_entry settings) { back = false }) then option_map Run (entry_request settings.back settings) else None
 
--- the request that a command with these settings is
-abbrev pub request_from : List ℕ → Settings → Option Request
-request_from command settings =
+-- the request of `encode`
+abbrev pub encode_request : Settings → Option Request
+encode_request settings =
+    if is_as_built settings && is_empty (record (without_circuit settings) { side = None })
+    then option_and_then (λ at_end. option_map Encode (entry_request at_end settings)) (is_at_end settings.side)
+    else None
+
+-- the request of a command without options
+abbrev pub request_alone : List ℕ → Option Request
+request_alone command =
+    if bytes_eq command (codes "format") then Some Format
+    else if bytes_eq command (codes "sim") then Some Simulate
+    else if bytes_eq command (codes "invert") then Some Invert
+    else None
+
+-- the request of a command with options
+abbrev pub request_with : List ℕ → Settings → Option Request
+request_with command settings =
     if bytes_eq command (codes "check") then check_request settings
     else if bytes_eq command (codes "compile") then compile_request settings
     else if bytes_eq command (codes "run") then run_request settings
-    else if bytes_eq command (codes "format") then request_alone Format settings
-    else if bytes_eq command (codes "sim") then request_alone Simulate settings
-    else if bytes_eq command (codes "invert") then request_alone Invert settings
+    else if bytes_eq command (codes "encode") then encode_request settings
     else None
+
+-- the request that a command with these settings is
+abbrev pub request_from : List ℕ → Settings → Option Request
+request_from command settings = if is_empty settings then request_alone command else request_with command settings
 
 -- the text of a key
 abbrev pub key_text : Key → List ℕ
@@ -80,6 +123,10 @@ key_text key.Entry = codes "--entry"
 key_text key.Bound = codes "--bound"
 key_text key.Inverse = codes "--inverse"
 key_text key.Back = codes "--back"
+key_text key.Level = codes "--level"
+key_text key.Flatten = codes "--flatten"
+key_text key.Narrow = codes "--narrow"
+key_text key.Side = codes "--side"
 
 -- whether the key is a whole option; otherwise the next argument is its value
 abbrev pub is_flag : Key → Bool
@@ -95,6 +142,10 @@ key_place key.Entry = 2
 key_place key.Bound = 3
 key_place key.Inverse = 4
 key_place key.Back = 5
+key_place key.Level = 6
+key_place key.Flatten = 7
+key_place key.Narrow = 8
+key_place key.Side = 9
 
 -- an option: its key, and its value, which a flag does not have
 abbrev pub Choice : Type 0
@@ -122,6 +173,10 @@ wanted settings key.Entry = option_to_list settings.entry
 wanted settings key.Bound = number_value settings.bound
 wanted settings key.Inverse = if settings.inverse then [] ∷ [] else []
 wanted settings key.Back = if settings.back then [] ∷ [] else []
+wanted settings key.Level = option_to_list settings.level
+wanted settings key.Flatten = option_to_list settings.flatten
+wanted settings key.Narrow = option_to_list settings.narrow
+wanted settings key.Side = option_to_list settings.side
 
 -- the greatest bound of an entry
 abbrev pub greatest_bound : ℕ
@@ -148,19 +203,20 @@ pub record Asks (words : List (List ℕ)) (request : Request) : Type 0 where
 abbrev pub IsUsage : List (List ℕ) → Type 0
 IsUsage words = (request : Request) → ¬ Asks words request
 
--- `compile --inverse --entry push --addr 2 --bound 255 --word 3`
-abbrev push_inverse : FileRequest
-push_inverse = record { widths = record { word = 3; addr = 2 }; entry = codes "push"; bound = Some 255; inverse = true }
+-- `encode --side out --entry push --addr 2 --narrow off --bound 255 --word 3`
+abbrev push_end : FileRequest
+push_end = record { widths = record { word = 3; addr = 2 }; entry = codes "push"; bound = Some 255; inverse = true }
 
 abbrev push_options : List Choice
-push_options = (key.Inverse, []) ∷ (key.Entry, codes "push") ∷ (key.Addr, codes "2") ∷ (key.Bound, codes "255") ∷ (key.Word, codes "3") ∷ []
+push_options =
+    (key.Side, codes "out") ∷ (key.Entry, codes "push") ∷ (key.Addr, codes "2") ∷ (key.Narrow, codes "off") ∷ (key.Bound, codes "255") ∷ (key.Word, codes "3") ∷ []
 
-pub asks_inverse :
-    Asks (codes "compile" ∷ codes "--inverse" ∷ codes "--entry" ∷ codes "push" ∷ codes "--addr" ∷ codes "2" ∷ codes "--bound" ∷ codes "255" ∷ codes "--word" ∷ codes "3" ∷ [])
-    (Compile push_inverse)
+pub asks_encode :
+    Asks (codes "encode" ∷ codes "--side" ∷ codes "out" ∷ codes "--entry" ∷ codes "push" ∷ codes "--addr" ∷ codes "2" ∷ codes "--narrow" ∷ codes "off" ∷ codes "--bound" ∷ codes "255" ∷ codes "--word" ∷ codes "3" ∷ [])
+    (Encode push_end)
 unfolding digits
-asks_inverse = record {
-  command = codes "compile";
+asks_encode = record {
+  command = codes "encode";
   options = flat_map choice_words push_options;
   spelled = refl;
   settings = push_settings;
@@ -175,7 +231,17 @@ asks_inverse = record {
 }
   where
     push_settings : Settings
-    push_settings = record { widths = Some push_inverse.widths; entry = Some push_inverse.entry; bound = push_inverse.bound; inverse = push_inverse.inverse; back = false }
+    push_settings = record {
+      widths = Some push_end.widths;
+      entry = Some push_end.entry;
+      bound = push_end.bound;
+      inverse = false;
+      back = false;
+      level = None;
+      flatten = None;
+      narrow = Some (codes "off");
+      side = Some (codes "out");
+    }
 
     each : (k : Key) → values_of k push_options ≡ wanted push_settings k
     each key.Word = refl
@@ -184,6 +250,10 @@ asks_inverse = record {
     each key.Bound = refl
     each key.Inverse = refl
     each key.Back = refl
+    each key.Level = refl
+    each key.Flatten = refl
+    each key.Narrow = refl
+    each key.Side = refl
 
 -- a key that is given twice has both values, in order
 pub values_of-twice : values_of key.Word ((key.Word, codes "3") ∷ (key.Inverse, codes "8") ∷ (key.Word, codes "5") ∷ []) ≡ codes "3" ∷ codes "5" ∷ []

@@ -7,13 +7,8 @@ use Rattle.tw_text.specs.declared.diagnostic.Diagnostic.{Diagnostic}
 use Rattle.tw_text.specs.declared.diagnostic.Diagnostic.TheVariants as diagnostic
 use Rattle.tw_syntax.specs.Programs.{FunTree, ProgramTree}
 use Rattle.tw_parse.specs.Sources.{IsSource}
-use Rattle.tw_types.specs.Types.{Ty}
-use Rattle.tw_resolve.specs.Declarations.{Name, funs_of}
 use Rattle.tw_resolve.specs.Demands.{first_broken}
-use Rattle.tw_resolve.specs.Programs.{IsTyped, setting_of}
 use Rattle.tw_resolve.specs.Setting.{Setting}
-use Rattle.tw_check.specs.declared.entry.Entry.{Entry}
-use Rattle.tw_check.specs.EntryPoints.{IsEntryOf}
 use Rattle.tw_state.specs.declared.state.Side.{Side}
 use Rattle.tw_state.specs.declared.state_fault.StateFault.{StateFault}
 use Rattle.tw_state.specs.declared.state_fault.StateFault.TheVariants as state_fault
@@ -24,11 +19,12 @@ use Rattle.tw_state.specs.StateRefusals.{IsRefusedText}
 use Rattle.tw_state.specs.Stuck.{Reason}
 use Rattle.tw_sim.specs.BitLines.{too_many}
 use Rattle.tw_frames.specs.declared.measured.Measured.{Measured}
-use Rattle.tw_frames.specs.Measures.{IsMeasured, limit_rules}
+use Rattle.tw_frames.specs.Measures.{limit_rules}
 use Rattle.tw_interp.specs.Runs.{IsAnswer, IsStuck, first_side, last_side}
 use Rattle.tw_interp.specs.StuckLines.{stuck_line}
 use Rattle.tower.specs.Requests.{FileRequest}
-use Rattle.tower.specs.Accepted.{BreaksFirst, IsReady, IsBadEntry}
+use Rattle.tower.specs.Accepted.{BreaksFirst, IsBadEntry}
+use Rattle.tower.specs.Entries.{EntryIn, setting_in, fun_in}
 use Rattle.tower.specs.Marks.{parted}
 use Rattle.tower.specs.Outcomes.{Outcome, Prints, PrintsStuck, Refuses}
 
@@ -83,23 +79,6 @@ abbrev pub state_refusal : StateFault → Option Diagnostic
 state_refusal (state_fault.BadState line why) = Some (diagnostic.BadState line why)
 state_refusal state_fault.TooMany = Some (diagnostic.Refused too_many)
 state_refusal state_fault.Memory = None
-
--- the entry of a request in an accepted program: its number, its function and its measure, and the types of the declared names
-pub record EntryIn (request : FileRequest) (tree : ProgramTree) : Type 0 where
-  pub ready : IsReady request tree
-  pub types : Name → Option Ty
-  pub typed : ∥ IsTyped request.widths tree types ∥₁
-  pub entry : Entry
-  pub is_entry : IsEntryOf (funs_of tree.decls) request.entry request.bound entry
-  pub measured : Measured
-  pub measures : IsMeasured (setting_of request.widths tree types) entry measured
-
--- its setting and its function
-abbrev pub setting_in : {request : FileRequest} {tree : ProgramTree} → EntryIn request tree → Setting
-setting_in {request} {tree} found = setting_of request.widths tree found.types
-
-abbrev pub fun_in : {request : FileRequest} {tree : ProgramTree} → EntryIn request tree → FunTree
-fun_in found = found.is_entry.is_entry.fun
 
 -- The answer to a text of states, by a function with this measure. The limits on its statements and depth are tried first, and then the
 -- text. The states that the text is are answered by their replies.

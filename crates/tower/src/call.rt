@@ -2,7 +2,7 @@
 ghost use Rattle.std.specs.Prelude.{◌≡◌, ◌≢◌, ◌≤◌, ◌+◌, ◌⊎◌, ℕ, List, length, IfSome};
 ghost use Rattle.tw_io.specs.Devices.{Rose, TakesBetween, IsAtEnd};
 ghost use Rattle.tw_text.specs.declared.limits.TheConstants.{INPUT_LIMIT};
-ghost use Rattle.tower.specs.Requests.{FileRequest, Format, Check, Compile, Run, Simulate, Invert, Asks, IsUsage};
+ghost use Rattle.tower.specs.Requests.{FileRequest, Format, Check, Compile, Run, Encode, Simulate, Invert, Asks, IsUsage};
 ghost use Rattle.tower.specs.Outcomes.{Outcome};
 ghost use Rattle.tower.specs.Answer.{InputAnswer, Answer, Answered, IsComplete, IsCutShort, Cause};
 ghost use Rattle.tw_types.specs.Types as types;
@@ -10,6 +10,7 @@ ghost use Rattle.tower.specs.Check.{Checked};
 ghost use Rattle.tower.specs.Format.{Formatted};
 ghost use Rattle.tower.specs.Compile.{Compiled};
 ghost use Rattle.tower.specs.Run.{Ran};
+ghost use Rattle.tower.specs.Encode.{EncodedStates};
 ghost use Rattle.tower.specs.Simulate.{Simulated};
 ghost use Rattle.tower.specs.Invert.{Inverted};
 ghost use Rattle.tower.specs.Given.{request_of};
@@ -17,6 +18,7 @@ ghost use Rattle.tower.specs.Ending.{Did, IsKept};
 
 use crate::check::check;
 use crate::compile::compile;
+use crate::encode::encode;
 use crate::ending::{Unanswered, finish, refuse};
 use crate::format::format;
 use crate::invert::invert;
@@ -44,6 +46,7 @@ fn answer<K: Sink>(
         Command::Check(widths) => check(alloc, *widths, bytes, output),
         Command::Compile(options) => compile(alloc, options, bytes, output),
         Command::Run(options) => run_program(alloc, options, bytes, output),
+        Command::Encode(options) => encode(alloc, options, bytes, output),
         Command::Simulate => simulate(alloc, bytes, output),
         Command::Invert => invert(alloc, bytes, output),
     }
@@ -91,12 +94,18 @@ fn run<S: Source, K: Sink>(alloc: Global, words: &Words, input: &mut S, output: 
 ///
 /// `compile --word W --addr A --entry F` reads a program and writes the gate file of its function `F`, or with `--inverse` the
 /// inverse file. `--bound N`, from 0 to 255, gives the number of the bound that `F` declares. The options may come in any order.
-/// A program that `check` refuses is refused alike, and then an entry that the program does not have. Programs of one form are
-/// compiled so far. All others are refused as not built.
+/// A program that `check` refuses is refused alike, and then an entry that the program does not have. Functions of `let` with atoms,
+/// pairs and `&&`, of `if`, `with`, blocks and `skip` are compiled so far. A program with any other function is refused as not built.
+/// Then an entry that passes a limit is refused. `--level mcx`, `--flatten off` and `--narrow off` may be given: these are the only
+/// values so far, and the ones that hold without them.
 ///
 /// `run --word W --addr A --entry F` reads a program, a line `%%`, and the texts of up to 1,024 states of its function `F`, separated by
 /// lines `--`. It writes for each state the result of `F`, or the statement that is stuck, with the same separators. With `--back` the
 /// states are those at the end of `F`, and it writes the states whose results they are. `--bound N` is as for `compile`.
+///
+/// `encode` takes the options of `compile` but `--inverse`, and the input of `run`. It writes for each state a line of its bits on the
+/// wires of the gate file that `compile` writes with these options, wire 0 first. The states are those at the start of `F`, or with
+/// `--side out` those at its end; `--side in` is as without it.
 ///
 /// An input that the command does not read is refused with a line that gives the reason, and the place if the refusal has one.
 /// `docs/FORMATS.md` has all texts and refusals.
@@ -122,6 +131,8 @@ pub fn tower_main<S: Source, K: Sink>(
         → IfSome (S.left input.old) (λ bytes. Checked widths bytes (K.taken output.old) (K.taken output.new)) }
     ensures ran { (request : FileRequest) → Asks words.now (Run request) → (result ≡ Status.Ok) ⊎ (result ≡ Status.Stuck)
         → IfSome (S.left input.old) (λ bytes. Ran request bytes (K.taken output.old) (K.taken output.new)) }
+    ensures encoded { (request : FileRequest) → Asks words.now (Encode request) → result ≡ Status.Ok
+        → IfSome (S.left input.old) (λ bytes. EncodedStates request bytes (K.taken output.old) (K.taken output.new)) }
     ensures inverted { Asks words.now Invert → result ≡ Status.Ok
         → IfSome (S.left input.old) (λ bytes. Inverted bytes (K.taken output.old) (K.taken output.new)) }
     ensures simulated { Asks words.now Simulate → result ≡ Status.Ok

@@ -6,33 +6,21 @@
 mod accept;
 mod call;
 mod check;
-#[cfg(test)]
-mod check_tests;
 mod compile;
-#[cfg(test)]
-mod compile_tests;
+mod encode;
 mod ending;
-mod first_form;
+mod entry;
 mod format;
+mod gathering;
 mod invert;
-#[cfg(test)]
-mod layout_tests;
 mod marks;
-#[cfg(test)]
-mod measure_tests;
 mod options;
-#[cfg(test)]
-mod random_tests;
 mod replies;
 mod request;
 mod run;
-#[cfg(test)]
-mod run_tests;
 mod settings;
 mod simulate;
 mod status;
-#[cfg(test)]
-mod tests;
 mod words;
 
 pub use call::tower_main;

@@ -13,7 +13,7 @@ pub enum Key {
     Word,
     /// The width of an address.
     Addr,
-    /// The function that is compiled.
+    /// The function that is compiled, run, or whose states are encoded.
     Entry,
     /// The number of its bound.
     Bound,
@@ -21,10 +21,18 @@ pub enum Key {
     Inverse,
     /// The program is run back.
     Back,
+    /// The level of the gates.
+    Level,
+    /// Whether nested conditions are flattened.
+    Flatten,
+    /// Whether the setup of a `with` is freed of controls.
+    Narrow,
+    /// The side of the function at which states are encoded.
+    Side,
 }
 
 /// The number of keys.
-const KEY_COUNT: usize = 6;
+const KEY_COUNT: usize = 10;
 
 impl Key {
     /// The key with this text.
@@ -38,6 +46,10 @@ impl Key {
             "--bound" => Some(Key::Bound),
             "--inverse" => Some(Key::Inverse),
             "--back" => Some(Key::Back),
+            "--level" => Some(Key::Level),
+            "--flatten" => Some(Key::Flatten),
+            "--narrow" => Some(Key::Narrow),
+            "--side" => Some(Key::Side),
             _ => None,
         }
     }

@@ -3,8 +3,8 @@ ghost use Rattle.std.specs.Prelude.{◌≡◌, ◌≤◌, ◌<◌, ℕ, Option, 
 ghost use Rattle.std.specs.Option.{IfNone};
 ghost use Rattle.tw_types.specs.Types as types;
 ghost use Rattle.tower.specs.Requests as requests;
-ghost use Rattle.tower.specs.Requests.{is_empty, greatest_bound, AreOptions};
-ghost use Rattle.tower.specs.Given.{settings_seen, value_text, SpellWidths, SetWidths, SetNumber};
+ghost use Rattle.tower.specs.Requests.{is_as_built, is_empty, is_unset_or, greatest_bound, AreOptions};
+ghost use Rattle.tower.specs.Given.{settings_seen, text_seen, value_text, SpellWidths, SetWidths, SetNumber};
 
 use crate::options::{Key, options_of};
 use crate::words::Words;
@@ -15,7 +15,7 @@ use tw_types::Widths;
 pub struct Settings<'w> {
     /// The widths of words and addresses.
     pub widths: Option<Widths>,
-    /// The name of the function that is compiled.
+    /// The name of the function that is compiled, run, or whose states are encoded.
     pub entry: Option<&'w str>,
     /// The number that the bound of that function has.
     pub bound: Option<u8>,
@@ -23,6 +23,24 @@ pub struct Settings<'w> {
     pub inverse: bool,
     /// Whether the program is run back.
     pub back: bool,
+    /// The level of the gates.
+    pub level: Option<&'w str>,
+    /// Whether nested conditions are flattened, `on` or `off`.
+    pub flatten: Option<&'w str>,
+    /// Whether the setup of a `with` is freed of controls, `on` or `off`.
+    pub narrow: Option<&'w str>,
+    /// The side at which states are encoded, `in` or `out`.
+    pub side: Option<&'w str>,
+}
+
+/// Whether an option is not given, or its value is this text.
+fn is_unset_or(text: &str, value: Option<&str>) -> bool
+    ensures { result ≡ is_unset_or text.now (text_seen value.entry) }
+{
+    match value {
+        None => true,
+        Some(value) => value == text,
+    }
 }
 
 impl<'w> Settings<'w> {
@@ -35,6 +53,19 @@ impl<'w> Settings<'w> {
             && self.bound.is_none()
             && !self.inverse
             && !self.back
+            && self.level.is_none()
+            && self.flatten.is_none()
+            && self.narrow.is_none()
+            && self.side.is_none()
+    }
+
+    /// Whether these are the settings of the circuits that are built: level `mcx`, no flattening, no narrowing.
+    pub fn is_as_built(&self) -> bool
+        ensures { result ≡ is_as_built (settings_seen self.now) }
+    {
+        is_unset_or("mcx", self.level)
+            && is_unset_or("off", self.flatten)
+            && is_unset_or("off", self.narrow)
     }
 }
 
@@ -97,5 +128,9 @@ pub fn settings_of(words: &Words) -> Option<Settings<'_>>
         bound,
         inverse: given.value(Key::Inverse).is_some(),
         back: given.value(Key::Back).is_some(),
+        level: given.value(Key::Level),
+        flatten: given.value(Key::Flatten),
+        narrow: given.value(Key::Narrow),
+        side: given.value(Key::Side),
     })
 }

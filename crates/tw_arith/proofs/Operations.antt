@@ -9,7 +9,8 @@ use Rattle.tw_code.proofs.Wires.{each_weaker}
 use Rattle.tw_code.proofs.WireMeaning.{around}
 use Rattle.tw_arith.specs.Operands.{PlainOperand, IsOfOperand, HasWidth, operand_bits}
 use Rattle.tw_arith.specs.Circuits.{copy_tree, pair_tree, operation, and_tree}
-use Rattle.tw_arith.specs.Prices.{and_rows}
+use Rattle.tw_code.specs.Rows.{and_rows}
+use Rattle.tw_arith.specs.Prices.{operand_load}
 use Rattle.tw_arith.specs.Xors.{AreApart, IsOf, InX, InY, InOut, InScratch, Value, and_value, result_bits, XorsWires, Xors, operation_regions, and_regions}
 use Rattle.tw_arith.proofs.Loads.{load_uses, load_proper, length-operand, placed_apart, both_split}
 use Rattle.tw_arith.proofs.Pricing.{and_price}
@@ -140,10 +141,10 @@ module _ (out s : ℕ) (apart : AreDisjoint (IsIn out 1) (IsIn s 2)) where
 pub and_wires : (x y : PlainOperand) (out s : ℕ) → HasWidth x 1 → HasWidth y 1 → AreApart (and_regions x y out s) → XorsWires (and_regions x y out s) and_value (and_tree x y out s)
 and_wires x y out s wide_x wide_y apart = operates x y 1 out 1 s 0 and_value [] (FlipCode (s ∷ (s + 1) ∷ []) out) wide_x wide_y apart (and_core out s apart.out_scratch)
 
-pub and_xors : (x y : PlainOperand) (out s : ℕ) → HasWidth x 1 → HasWidth y 1 → AreApart (and_regions x y out s) → Xors (and_regions x y out s) and_value (and_rows x y) (and_tree x y out s)
+pub and_xors : (x y : PlainOperand) (out s : ℕ) → HasWidth x 1 → HasWidth y 1 → AreApart (and_regions x y out s) → Xors (and_regions x y out s) and_value (and_rows (operand_load x 1) (operand_load y 1)) (and_tree x y out s)
 and_xors x y out s wide_x wide_y apart =
-    on_lists (and_regions x y out s) and_value (and_tree x y out s) apart (and_wires x y out s wide_x wide_y apart) (and_rows x y) (λ options under wanted. and_price options x y out s under wanted)
+    on_lists (and_regions x y out s) and_value (and_tree x y out s) apart (and_wires x y out s wide_x wide_y apart) (and_rows (operand_load x 1) (operand_load y 1)) (λ options under wanted. and_price options x y out s under wanted)
 
 -- a code with that tree
-pub and_made : (x y : PlainOperand) (out s : ℕ) (code : CodeTree) → code ≡ and_tree x y out s → HasWidth x 1 → HasWidth y 1 → AreApart (and_regions x y out s) → Xors (and_regions x y out s) and_value (and_rows x y) code
-and_made x y out s code is wide_x wide_y apart = subst (Xors (and_regions x y out s) and_value (and_rows x y)) (sym is) (and_xors x y out s wide_x wide_y apart)
+pub and_made : (x y : PlainOperand) (out s : ℕ) (code : CodeTree) → code ≡ and_tree x y out s → HasWidth x 1 → HasWidth y 1 → AreApart (and_regions x y out s) → Xors (and_regions x y out s) and_value (and_rows (operand_load x 1) (operand_load y 1)) code
+and_made x y out s code is wide_x wide_y apart = subst (Xors (and_regions x y out s) and_value (and_rows (operand_load x 1) (operand_load y 1))) (sym is) (and_xors x y out s wide_x wide_y apart)

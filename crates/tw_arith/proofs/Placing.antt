@@ -11,7 +11,8 @@ use Rattle.tw_code.proofs.WireMeaning.{undo}
 use Rattle.tw_code.proofs.OnLists.{mean_on_list}
 use Rattle.tw_arith.specs.Operands.{PlainOperand, IsOfOperand, HasWidth, operand_bits}
 use Rattle.tw_arith.specs.Circuits.{copy_tree, pair_tree}
-use Rattle.tw_arith.specs.Prices.{Row, gates_in, copy_rows, pair_rows}
+use Rattle.tw_code.specs.Rows.{Row, gates_in, load_rows, pair_rows}
+use Rattle.tw_arith.specs.Prices.{operand_load}
 use Rattle.tw_arith.specs.Xors.{Regions, AreApart, IsOf, InX, InY, InOut, Value, copy_value, pair_value, result_bits, XorsWires, Xors, copy_regions, pair_regions}
 use Rattle.tw_arith.proofs.Loads.{load_does, load_uses, load_proper, length-operand, operand_spared, placed_apart, both_do, both_use, both_proper}
 use Rattle.tw_arith.proofs.Pricing.{load_price, pair_price}
@@ -61,9 +62,9 @@ copy_wires x out width wide apart = record {
   does = λ bits clear. load_does x out width bits apart.x_out;
 }
 
-pub copy_xors : (x : PlainOperand) (out width : ℕ) → HasWidth x width → AreApart (copy_regions x out width) → Xors (copy_regions x out width) copy_value (copy_rows x width) (copy_tree x out width)
+pub copy_xors : (x : PlainOperand) (out width : ℕ) → HasWidth x width → AreApart (copy_regions x out width) → Xors (copy_regions x out width) copy_value (load_rows (operand_load x width)) (copy_tree x out width)
 copy_xors x out width wide apart =
-    on_lists (copy_regions x out width) copy_value (copy_tree x out width) apart (copy_wires x out width wide apart) (copy_rows x width) (λ options under wanted. load_price options x out width under wanted)
+    on_lists (copy_regions x out width) copy_value (copy_tree x out width) apart (copy_wires x out width wide apart) (load_rows (operand_load x width)) (λ options under wanted. load_price options x out width under wanted)
 
 pub pair_wires : (x y : PlainOperand) (out left right : ℕ) → HasWidth x left → HasWidth y right → AreApart (pair_regions x y out left right)
     → XorsWires (pair_regions x y out left right) pair_value (pair_tree x y out left right)
@@ -75,16 +76,16 @@ pair_wires x y out left right wide_x wide_y apart = record {
 }
 
 pub pair_xors : (x y : PlainOperand) (out left right : ℕ) → HasWidth x left → HasWidth y right → AreApart (pair_regions x y out left right)
-    → Xors (pair_regions x y out left right) pair_value (pair_rows x y left right) (pair_tree x y out left right)
+    → Xors (pair_regions x y out left right) pair_value (pair_rows (operand_load x left) (operand_load y right)) (pair_tree x y out left right)
 pair_xors x y out left right wide_x wide_y apart =
-    on_lists (pair_regions x y out left right) pair_value (pair_tree x y out left right) apart (pair_wires x y out left right wide_x wide_y apart) (pair_rows x y left right)
+    on_lists (pair_regions x y out left right) pair_value (pair_tree x y out left right) apart (pair_wires x y out left right wide_x wide_y apart) (pair_rows (operand_load x left) (operand_load y right))
     (λ options under wanted. pair_price options x y out left right under wanted)
 
 -- a code with that tree
-pub copy_made : (x : PlainOperand) (out width : ℕ) (code : CodeTree) → code ≡ copy_tree x out width → HasWidth x width → AreApart (copy_regions x out width) → Xors (copy_regions x out width) copy_value (copy_rows x width) code
-copy_made x out width code is wide apart = subst (Xors (copy_regions x out width) copy_value (copy_rows x width)) (sym is) (copy_xors x out width wide apart)
+pub copy_made : (x : PlainOperand) (out width : ℕ) (code : CodeTree) → code ≡ copy_tree x out width → HasWidth x width → AreApart (copy_regions x out width) → Xors (copy_regions x out width) copy_value (load_rows (operand_load x width)) code
+copy_made x out width code is wide apart = subst (Xors (copy_regions x out width) copy_value (load_rows (operand_load x width))) (sym is) (copy_xors x out width wide apart)
 
 pub pair_made : (x y : PlainOperand) (out left right : ℕ) (code : CodeTree) → code ≡ pair_tree x y out left right → HasWidth x left → HasWidth y right → AreApart (pair_regions x y out left right)
-    → Xors (pair_regions x y out left right) pair_value (pair_rows x y left right) code
+    → Xors (pair_regions x y out left right) pair_value (pair_rows (operand_load x left) (operand_load y right)) code
 pair_made x y out left right code is wide_x wide_y apart =
-    subst (Xors (pair_regions x y out left right) pair_value (pair_rows x y left right)) (sym is) (pair_xors x y out left right wide_x wide_y apart)
+    subst (Xors (pair_regions x y out left right) pair_value (pair_rows (operand_load x left) (operand_load y right))) (sym is) (pair_xors x y out left right wide_x wide_y apart)

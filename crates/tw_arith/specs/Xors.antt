@@ -7,8 +7,8 @@ use Rattle.tw_code.specs.Meaning.{mean}
 use Rattle.tw_code.specs.Wires.{EachWire, IsProperCode}
 use Rattle.tw_code.specs.Functions.{Bits, changed, placed, read, IsIn, AreDisjoint, AreZero, mean_wires}
 use Rattle.tw_code.specs.Counts.{counts}
+use Rattle.tw_code.specs.Rows.{Row, gates_in}
 use Rattle.tw_arith.specs.Operands.{PlainOperand, IsOfOperand, operand_bits}
-use Rattle.tw_arith.specs.Prices.{Row, gates_in}
 
 -- The regions of an expression: its operands and their widths, the wires of the result, and those of the scratch. An expression of
 -- one operand has it twice.

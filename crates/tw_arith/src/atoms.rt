@@ -3,7 +3,8 @@ ghost use Rattle.std.specs.Prelude.{◌≡◌, ◌+◌, ◌≤◌, IfOk};
 ghost use Rattle.tw_code.specs.Trees.{code_tree};
 ghost use Rattle.tw_arith.specs.Operands.{plain, EndsWithin, HasWidth};
 ghost use Rattle.tw_arith.specs.Circuits.{copy_tree, pair_tree};
-ghost use Rattle.tw_arith.specs.Prices.{copy_rows, pair_rows};
+ghost use Rattle.tw_code.specs.Rows.{load_rows, pair_rows};
+ghost use Rattle.tw_arith.specs.Prices.{operand_load};
 ghost use Rattle.tw_arith.specs.Xors.{Xors, AreApart, copy_regions, pair_regions, copy_value, pair_value};
 
 use crate::load::{load, load_both};
@@ -24,7 +25,7 @@ pub fn copy_code<'a>(
     requires out { EndsWithin out width }
     requires apart { AreApart (copy_regions (plain x) out width) }
     ensures tree { IfOk result (λ code. code_tree code.now ≡ copy_tree (plain x.entry) out width) }
-    ensures xors { IfOk result (λ code. Xors (copy_regions (plain x.entry) out width) copy_value (copy_rows (plain x.entry) width) (code_tree code.now)) }
+    ensures xors { IfOk result (λ code. Xors (copy_regions (plain x.entry) out width) copy_value (load_rows (operand_load (plain x.entry) width)) (code_tree code.now)) }
 {
     Ok(arena.try_alloc(load(arena, x, out, width)?)?)
 }
@@ -41,7 +42,7 @@ pub fn constant_code<'a>(
     requires out { EndsWithin out width }
     requires apart { AreApart (copy_regions (plain x) out width) }
     ensures tree { IfOk result (λ code. code_tree code.now ≡ copy_tree (plain x.entry) out width) }
-    ensures xors { IfOk result (λ code. Xors (copy_regions (plain x.entry) out width) copy_value (copy_rows (plain x.entry) width) (code_tree code.now)) }
+    ensures xors { IfOk result (λ code. Xors (copy_regions (plain x.entry) out width) copy_value (load_rows (operand_load (plain x.entry) width)) (code_tree code.now)) }
 {
     copy_code(arena, x, out, width)
 }
@@ -61,7 +62,7 @@ pub fn pair_code<'a>(
     requires out { EndsWithin out (left + right) }
     requires apart { AreApart (pair_regions (plain x) (plain y) out left right) }
     ensures tree { IfOk result (λ code. code_tree code.now ≡ pair_tree (plain x.entry) (plain y.entry) out left right) }
-    ensures xors { IfOk result (λ code. Xors (pair_regions (plain x.entry) (plain y.entry) out left right) pair_value (pair_rows (plain x.entry) (plain y.entry) left right) (code_tree code.now)) }
+    ensures xors { IfOk result (λ code. Xors (pair_regions (plain x.entry) (plain y.entry) out left right) pair_value (pair_rows (operand_load (plain x.entry) left) (operand_load (plain y.entry) right)) (code_tree code.now)) }
 {
     Ok(arena.try_alloc(load_both(arena, x, y, out, left, right)?)?)
 }

@@ -6,8 +6,6 @@ mod atoms;
 mod load;
 mod logic;
 mod operand;
-#[cfg(test)]
-mod tests;
 
 pub use atoms::{constant_code, copy_code, pair_code};
 pub use logic::and_code;

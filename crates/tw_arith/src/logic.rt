@@ -3,7 +3,8 @@ ghost use Rattle.std.specs.Prelude.{◌≡◌, ◌+◌, ◌<◌, ◌≤◌, IfOk
 ghost use Rattle.tw_code.specs.Trees.{code_tree};
 ghost use Rattle.tw_arith.specs.Operands.{plain, EndsWithin, HasWidth};
 ghost use Rattle.tw_arith.specs.Circuits.{and_tree};
-ghost use Rattle.tw_arith.specs.Prices.{and_rows};
+ghost use Rattle.tw_code.specs.Rows.{and_rows};
+ghost use Rattle.tw_arith.specs.Prices.{operand_load};
 ghost use Rattle.tw_arith.specs.Xors.{Xors, AreApart, and_regions, and_value};
 
 use crate::load::load_both;
@@ -29,7 +30,7 @@ pub fn and_code<'a>(
     requires scratch { EndsWithin scratch 2 }
     requires apart { AreApart (and_regions (plain x) (plain y) out scratch) }
     ensures tree { IfOk result (λ code. code_tree code.now ≡ and_tree (plain x.entry) (plain y.entry) out scratch) }
-    ensures xors { IfOk result (λ code. Xors (and_regions (plain x.entry) (plain y.entry) out scratch) and_value (and_rows (plain x.entry) (plain y.entry)) (code_tree code.now)) }
+    ensures xors { IfOk result (λ code. Xors (and_regions (plain x.entry) (plain y.entry) out scratch) and_value (and_rows (operand_load (plain x.entry) 1) (operand_load (plain y.entry) 1)) (code_tree code.now)) }
 {
     let loads = load_both(arena, x, y, scratch, width, width)?;
     let work = flip(arena, &[scratch, scratch + 1], out)?;

@@ -9,8 +9,6 @@ mod mention;
 mod name_set;
 mod path;
 mod statement;
-#[cfg(test)]
-mod tests;
 mod variable;
 mod walk;
 

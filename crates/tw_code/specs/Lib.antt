@@ -4,6 +4,7 @@ pub mod Examples
 pub mod Functions
 pub mod Meaning
 pub mod Present
+pub mod Rows
 pub mod Sorting
 pub mod Trees
 pub mod Wires

@@ -8,8 +8,6 @@ mod code;
 mod emitter;
 mod gates;
 mod present;
-#[cfg(test)]
-mod tests;
 
 pub use apply::apply_code;
 pub use build::{conjugated, controlled, flip, sequence, with_setup};

@@ -18,7 +18,8 @@ use Rattle.tw_state.proofs.Basics.{by_option, by_test, contradiction, same_name,
 use Rattle.tw_state.proofs.Calls.{AreDifferent as AreOthers, inner}
 use Rattle.tw_frames.specs.declared.regions.WireLayout.{WireLayout}
 use Rattle.tw_frames.specs.Frames.{Frame, frame_from, frame_size, linked_wire, local_names}
-use Rattle.tw_frames.specs.Regions.{Lies, Apart, Owns, IsFrame}
+use Rattle.tw_code.specs.Functions.{IsIn, AreDisjoint}
+use Rattle.tw_frames.specs.Regions.{Owns, IsFrame}
 use Rattle.tw_frames.specs.Scratch.{fun_scratch}
 use Rattle.tw_frames.specs.Sizes.{name_size, names_size, type_size, wire_from}
 use Rattle.tw_frames.proofs.Locals.{variables_different}
@@ -41,7 +42,7 @@ module _ (widths : Widths) (types : Types) where
 
   -- two names among others lie apart
   pub wires_apart : (names : List Name) (name other : Name) (first : ℕ) → is_one_of name names ≡ true → is_one_of other names ≡ true → bytes_eq name other ≡ false
-      → Apart (Lies (wire_from widths types first names name) (name_size widths types name)) (Lies (wire_from widths types first names other) (name_size widths types other))
+      → AreDisjoint (IsIn (wire_from widths types first names name) (name_size widths types name)) (IsIn (wire_from widths types first names other) (name_size widths types other))
   wires_apart [] name other first known also differ = contradiction {test = true} refl (sym known)
   wires_apart (head ∷ names) name other first known also differ =
       by (bytes_eq head name) (bytes_eq head other) (wire_from widths types next names name) (wire_from widths types next names other) refl refl
@@ -53,24 +54,24 @@ module _ (widths : Widths) (types : Types) where
       next = first + name_size widths types head
 
       by : (k l : Bool) (m n : ℕ) → bytes_eq head name ≡ k → bytes_eq head other ≡ l → (bytes_eq head name ≡ false → next ≤ m) → (bytes_eq head other ≡ false → next ≤ n)
-          → (bytes_eq head name ≡ false → bytes_eq head other ≡ false → Apart (Lies m (name_size widths types name)) (Lies n (name_size widths types other)))
-          → Apart (Lies (if k then first else m) (name_size widths types name)) (Lies (if l then first else n) (name_size widths types other))
+          → (bytes_eq head name ≡ false → bytes_eq head other ≡ false → AreDisjoint (IsIn m (name_size widths types name)) (IsIn n (name_size widths types other)))
+          → AreDisjoint (IsIn (if k then first else m) (name_size widths types name)) (IsIn (if l then first else n) (name_size widths types other))
       by true true m n p q above also_above deeper = contradiction (ap (bytes_eq name) (sym (same_name head other q) ∙ same_name head name p) ∙ name_test name) differ
       by true false m n p q above also_above deeper = λ wire x y.
           let after = also_above q in
           let same = ap (name_size widths types) (same_name head name p) in
-          omega (arith, after, same, x.below, y.from)
+          omega (arith, after, same, x.before_end, y.from_start)
       by false true m n p q above also_above deeper = λ wire x y.
           let after = above p in
           let same = ap (name_size widths types) (same_name head other q) in
-          omega (arith, after, same, x.from, y.below)
+          omega (arith, after, same, x.from_start, y.before_end)
       by false false m n p q above also_above deeper = deeper p q
 
   -- a name that has wires has a type
-  pub owner_typed : (name : Name) (first wire : ℕ) → Lies first (name_size widths types name) wire → (ty : Ty) × (types name ≡ Some ty)
+  pub owner_typed : (name : Name) (first wire : ℕ) → IsIn first (name_size widths types name) wire → (ty : Ty) × (types name ≡ Some ty)
   owner_typed name first wire lies =
       by_option (types name)
-      (λ none. let empty = ap (type_size widths) none in absurd (omega (arith, empty, lies.from, lies.below)))
+      (λ none. let empty = ap (type_size widths) none in absurd (omega (arith, empty, lies.from_start, lies.before_end)))
       (λ ty is. (ty, is))
 
 -- a variable with a type is one of the variables
@@ -205,8 +206,8 @@ linked_other (link ∷ more) caller own name none =
 pub record AreLinked (setting : Setting) (layout : WireLayout) (fun : FunTree) (shared : List (Name × Name)) (wire : Name → ℕ) (first : ℕ) : Type 0 where
   pub linked : (name : Name) → is_one_of name (inner shared) ≡ is_one_of name (names_at_end fun)
   pub apart : (name other : Name) → is_one_of name (inner shared) ≡ true → is_one_of other (inner shared) ≡ true → bytes_eq name other ≡ false
-      → Apart (Lies (wire name) (name_size setting.widths (fun_types setting fun) name)) (Lies (wire other) (name_size setting.widths (fun_types setting fun) other))
-  pub within : (name : Name) (at : ℕ) → is_one_of name (inner shared) ≡ true → Lies (wire name) (name_size setting.widths (fun_types setting fun) name) at → (layout.args ≤ at) × (at < first)
+      → AreDisjoint (IsIn (wire name) (name_size setting.widths (fun_types setting fun) name)) (IsIn (wire other) (name_size setting.widths (fun_types setting fun) other))
+  pub within : (name : Name) (at : ℕ) → is_one_of name (inner shared) ≡ true → IsIn (wire name) (name_size setting.widths (fun_types setting fun) name) at → (layout.args ≤ at) × (at < first)
 
 module _ (setting : Setting) (layout : WireLayout) (fun : FunTree) (shared : List (Name × Name)) (caller : Name → ℕ) (first : ℕ) where
   abbrev frame : Frame
@@ -231,9 +232,9 @@ module _ (setting : Setting) (layout : WireLayout) (fun : FunTree) (shared : Lis
         by (Local none one) =
             let is = linked_other shared caller own name (links.linked name ∙ none) in
             let within = wire_within setting.widths (fun_types setting fun) (local_names setting fun) name first one in
-            AtLocal one is (omega (arith, is, within.0, owns.from)) (omega (arith, is, within.1, owns.below))
+            AtLocal one is (omega (arith, is, within.0, owns.from_start)) (omega (arith, is, within.1, owns.before_end))
 
-    names_apart : (name other : Name) → bytes_eq name other ≡ false → Apart (Owns setting.widths frame name) (Owns setting.widths frame other)
+    names_apart : (name other : Name) → bytes_eq name other ≡ false → AreDisjoint (Owns setting.widths frame name) (Owns setting.widths frame other)
     names_apart name other differ wire p q = by (lying name wire p) (lying other wire q)
       where
         by : Lying name wire → Lying other wire → ⊥
@@ -242,8 +243,8 @@ module _ (setting : Setting) (layout : WireLayout) (fun : FunTree) (shared : Lis
         by (AtLocal one is from below) (AtLink also) = let before = (links.within other wire also q).1 in omega (arith, before, from)
         by (AtLocal one is from below) (AtLocal also is_other from_other below_other) =
             wires_apart setting.widths (fun_types setting fun) (local_names setting fun) name other first one also differ wire
-            (subst (λ n. Lies n (name_size setting.widths (fun_types setting fun) name) wire) is p)
-            (subst (λ n. Lies n (name_size setting.widths (fun_types setting fun) other) wire) is_other q)
+            (subst (λ n. IsIn n (name_size setting.widths (fun_types setting fun) name) wire) is p)
+            (subst (λ n. IsIn n (name_size setting.widths (fun_types setting fun) other) wire) is_other q)
 
     before_ifs : (name : Name) (wire : ℕ) → Owns setting.widths frame name wire → (layout.args ≤ wire) × (wire < frame.ifs)
     before_ifs name wire owns = by (lying name wire owns)
@@ -258,7 +259,7 @@ module _ (setting : Setting) (layout : WireLayout) (fun : FunTree) (shared : Lis
       different = frame_names_different setting fun different;
       known = λ name ty is. place_known setting fun name (place_of setting fun name ty is);
       apart = names_apart;
-      ifs_apart = λ name wire owns of_if. let before = (before_ifs name wire owns).1 in omega (arith, before, of_if.from);
+      ifs_apart = λ name wire owns of_if. let before = (before_ifs name wire owns).1 in omega (arith, before, of_if.from_start);
       after_memory = λ name wire owns. (before_ifs name wire owns).0;
       before_next = λ name wire owns. let before = (before_ifs name wire owns).1 in omega (arith, before);
       ifs_after_result = omega (arith, after_result);

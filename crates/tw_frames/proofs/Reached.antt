@@ -42,7 +42,8 @@ use Rattle.tw_frames.specs.declared.regions.WireLayout.{WireLayout}
 use Rattle.tw_frames.specs.declared.workspace.Workspace.{Workspace}
 use Rattle.tw_frames.specs.Frames.{Frame, frame_size, linked_wire, local_names, callee_frame}
 use Rattle.tw_frames.specs.Layout.{IsLaidOut, entry_frame, flag_count, ladder_size, region_sizes, in_order}
-use Rattle.tw_frames.specs.Regions.{Lies, Owns, IsFrame, HasCall, IsCall, InFirst, InRest, InElse, InYes, InNo, InSetup, InWork, InBlock, IsReached, ReachesEntry, ReachesCallee, AreFrames, AreInOrder}
+use Rattle.tw_code.specs.Functions.{IsIn}
+use Rattle.tw_frames.specs.Regions.{Owns, IsFrame, HasCall, IsCall, InFirst, InRest, InElse, InYes, InNo, InSetup, InWork, InBlock, IsReached, ReachesEntry, ReachesCallee, AreFrames, AreInOrder}
 use Rattle.tw_frames.specs.Scratch.{fun_scratch}
 use Rattle.tw_frames.specs.Sizes.{name_size, names_size, type_size, wire_from}
 use Rattle.tw_frames.specs.Workspaces.{entered, Needs, NeedsThen, NeedsBlock, NeedsElse, NeedsIf, NeedsWith, NeedsCall, NeedsCallZero, NeedsEntry, NeedsBody, NeedsNoBody}
@@ -246,11 +247,11 @@ module _ (setting : Setting) (layout : WireLayout) where
 
     module _ (own : Name → ℕ) where
       -- a wire of a linked name is one of the caller's name
-      of_caller : (name : Name) (wire : ℕ) (link : Link (fun_types setting fun) frame.types shared frame.wire own name) → Lies (linked_wire shared frame.wire own name) (name_size setting.widths (fun_types setting fun) name) wire
+      of_caller : (name : Name) (wire : ℕ) (link : Link (fun_types setting fun) frame.types shared frame.wire own name) → IsIn (linked_wire shared frame.wire own name) (name_size setting.widths (fun_types setting fun) name) wire
           → Owns setting.widths frame link.other wire
       of_caller name wire link lies =
-          subst (λ type. Lies (frame.wire link.other) (type_size setting.widths type) wire) link.type_is
-          (subst (λ first. Lies first (name_size setting.widths (fun_types setting fun) name) wire) link.wire_is lies)
+          subst (λ type. IsIn (frame.wire link.other) (type_size setting.widths type) wire) link.type_is
+          (subst (λ first. IsIn first (name_size setting.widths (fun_types setting fun) name) wire) link.wire_is lies)
 
       pub callee_linked : AreLinked setting layout fun shared (linked_wire shared frame.wire own) frame.next
       callee_linked = record {
@@ -303,15 +304,15 @@ module _ (setting : Setting) (layout : WireLayout) (fun : FunTree) (args_at : la
         let within = wire_within setting.widths (fun_types setting fun) formals name layout.args (formal name known) in
         let owns = moved name known wire lies in
         let all = names_size-last setting.widths (fun_types setting fun) (names_at_start fun) fun.returned.text in
-        (omega (arith, within.0, owns.from), omega (arith, within.1, owns.below, all, args_at, out_at));
+        (omega (arith, within.0, owns.from_start), omega (arith, within.1, owns.before_end, all, args_at, out_at));
   }
     where
       formal : (name : Name) → is_one_of name (inner (map twice formals)) ≡ true → is_one_of name formals ≡ true
       formal name known = ap (is_one_of name) (sym (inner_twice formals)) ∙ known
 
-      moved : (name : Name) → is_one_of name (inner (map twice formals)) ≡ true → (wire : ℕ) → Lies (linked_wire (map twice formals) first_wires own name) (name_size setting.widths (fun_types setting fun) name) wire
-          → Lies (first_wires name) (name_size setting.widths (fun_types setting fun) name) wire
-      moved name known wire lies = subst (λ first. Lies first (name_size setting.widths (fun_types setting fun) name) wire) (linked_twice formals first_wires own name (formal name known)) lies
+      moved : (name : Name) → is_one_of name (inner (map twice formals)) ≡ true → (wire : ℕ) → IsIn (linked_wire (map twice formals) first_wires own name) (name_size setting.widths (fun_types setting fun) name) wire
+          → IsIn (first_wires name) (name_size setting.widths (fun_types setting fun) name) wire
+      moved name known wire lies = subst (λ first. IsIn first (name_size setting.widths (fun_types setting fun) name) wire) (linked_twice formals first_wires own name (formal name known)) lies
 
 module _ (setting : Setting) (is_sound : IsSound setting) (functions : (k : ℕ) (fun : FunTree) → slice_get setting.funs k ≡ Some fun → IsFunction setting fun) (entry : Entry) (options : Options) (level : Level) (most_controls : ℕ)
     (layout : WireLayout) (laid : IsLaidOut setting entry options level most_controls layout) where

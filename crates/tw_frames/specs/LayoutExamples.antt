@@ -31,7 +31,7 @@ abbrev pub plain_program : Widths → List FunTree → Setting
 plain_program widths funs = record { widths = widths; scope = record { declared = λ name. None; targets = [] }; types = λ name. None; funs = funs }
 
 -- `bool`
-abbrev truth_type : WrittenTree
+abbrev pub truth_type : WrittenTree
 truth_type = BoolType (place 1 1)
 
 -- a function without a bound: its name, the names of its parameters, all `bool`, the type of its result, its body, and the result
@@ -66,7 +66,7 @@ abbrev pub workspace : (frames scratch : ℕ) → Workspace
 workspace frames scratch = record { frames = frames; scratch = scratch }
 
 -- `let target <- x && y;`
-abbrev conjoin : List ℕ → List ℕ → List ℕ → StmtTree
+abbrev pub conjoin : List ℕ → List ℕ → List ℕ → StmtTree
 conjoin target x y = assign 40 target (ExprRhs (OpExpr (place 1 49) op.And (variable x 49) (variable y 54)))
 
 -- `fun main(a: bool, b: bool) -> bool { let c <- a && b; return c; }`: head and block at 0 and 1, a at 2, b at 3, c at 4, and two copies
@@ -82,10 +82,10 @@ conjunction_on_7_wires = record {
 }
 
 -- `fun main(a: bool, b: bool, d: bool) -> bool { if a { let c <- b && d; } return c; }`
-abbrev under_if : FunTree
+abbrev pub under_if : FunTree
 under_if = fun_of (codes "main") (codes "a" ∷ codes "b" ∷ codes "d" ∷ []) truth_type (only (IfStmt (place 1 47) (path (codes "a") 50) (only (conjoin (codes "c") (codes "b") (codes "d"))) Nothing)) (codes "c")
 
-abbrev if_program : Setting
+abbrev pub if_program : Setting
 if_program = plain_program one_bit (under_if ∷ [])
 
 if_needs : NeedsEntry if_program under_if None (workspace 1 2)
@@ -110,7 +110,7 @@ abbrev inner_if : StmtTree
 inner_if =
     IfStmt (place 1 64) (path (codes "a") 67) (Then (conjoin (codes "c") (codes "d") (codes "e")) (only (conjoin (codes "g") (codes "e") (codes "d")))) Nothing
 
-abbrev nested_ifs : FunTree
+abbrev pub nested_ifs : FunTree
 nested_ifs = fun_of (codes "main") (codes "a" ∷ codes "b" ∷ codes "d" ∷ codes "e" ∷ []) (PairType (place 1 40) truth_type truth_type)
     (Then (IfStmt (place 1 57) (path (codes "b") 60) (only inner_if) Nothing)
     (Then (assign 110 (codes "r") (ExprRhs (OneExpr (place 1 119) (ZeroAtom (place 1 119) (PairType (place 1 127) truth_type truth_type)))))
@@ -119,7 +119,7 @@ nested_ifs = fun_of (codes "main") (codes "a" ∷ codes "b" ∷ codes "d" ∷ co
     (Then (unassign 164 (codes "c") (truth false 173)) (only (unassign 180 (codes "g") (truth false 189))))))))
     (codes "r")
 
-abbrev nested_program : Setting
+abbrev pub nested_program : Setting
 nested_program = plain_program one_bit (nested_ifs ∷ [])
 
 nested_needs : NeedsEntry nested_program nested_ifs None (workspace 4 2)

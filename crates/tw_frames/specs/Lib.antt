@@ -1,6 +1,4 @@
 pub mod Sizes
-pub mod Conjunctions
-pub mod Cost
 pub mod Measures
 pub mod MeasureExamples
 pub mod MeasureTable
@@ -8,6 +6,8 @@ pub mod Scratch
 pub mod Frames
 pub mod Workspaces
 pub mod Layout
+pub mod Inventory
 pub mod Regions
 pub mod Found
 pub mod LayoutExamples
+pub mod InventoryExamples

@@ -1,6 +1,7 @@
 -- Regions of wires that are apart: those of a layout, and those of each frame that calls reach.
 use Rattle.std.specs.Prelude.{◌≡◌, ◌≤◌, ◌<◌, ℕ, ◌+◌, true, false, List, slice_get, Option, Some}
 use Rattle.std.specs.Str.{bytes_eq}
+use Rattle.tw_code.specs.Functions.{IsIn, AreDisjoint}
 use Rattle.tw_syntax.specs.Names.{NameTree}
 use Rattle.tw_syntax.specs.Programs.{FunTree}
 use Rattle.tw_syntax.specs.Statements.{StmtTree, Then, Else, LetStmt, IfStmt, WithStmt, BlockStmt}
@@ -18,15 +19,6 @@ use Rattle.tw_frames.specs.Frames.{Frame, if_count, callee_frame}
 use Rattle.tw_frames.specs.Layout.{entry_frame}
 use Rattle.tw_frames.specs.Scratch.{fun_scratch}
 
--- the wire is one of so many from a first one on
-pub record Lies (first count wire : ℕ) : Type 0 where
-  pub from : first ≤ wire
-  pub below : wire < first + count
-
--- no wire is in both regions
-abbrev pub Apart : (ℕ → Type 0) → (ℕ → Type 0) → Type 0
-Apart P Q = (wire : ℕ) → P wire → Q wire → ⊥
-
 -- the regions of a layout begin after the memory, and each ends where the next one begins; the last one ends after the last wire
 pub record AreInOrder (widths : Widths) (layout : WireLayout) : Type 0 where
   pub memory : layout.args ≡ memory_size widths layout.block
@@ -39,19 +31,19 @@ pub record AreInOrder (widths : Widths) (layout : WireLayout) : Type 0 where
 
 -- the wire is one of those of a name
 abbrev pub Owns : Widths → Frame → Name → ℕ → Type 0
-Owns widths frame name = Lies (frame.wire name) (name_size widths frame.types name)
+Owns widths frame name = IsIn (frame.wire name) (name_size widths frame.types name)
 
 -- the wire is that of an `if`
 abbrev pub OfIf : FunTree → Frame → ℕ → Type 0
-OfIf fun frame = Lies frame.ifs (if_count fun.body)
+OfIf fun frame = IsIn frame.ifs (if_count fun.body)
 
 -- this is a frame of a function in a layout: each variable and each `if` of the function has wires of its own. They lie between the memory
 -- and the end of the frame, which is in the region of the frames, and the scratch is enough for the function
 pub record IsFrame (setting : Setting) (layout : WireLayout) (fun : FunTree) (frame : Frame) : Type 0 where
   pub different : AreDifferent frame.names
   pub known : (name : Name) (ty : Ty) → frame.types name ≡ Some ty → is_one_of name frame.names ≡ true
-  pub apart : (name other : Name) → bytes_eq name other ≡ false → Apart (Owns setting.widths frame name) (Owns setting.widths frame other)
-  pub ifs_apart : (name : Name) → Apart (Owns setting.widths frame name) (OfIf fun frame)
+  pub apart : (name other : Name) → bytes_eq name other ≡ false → AreDisjoint (Owns setting.widths frame name) (Owns setting.widths frame other)
+  pub ifs_apart : (name : Name) → AreDisjoint (Owns setting.widths frame name) (OfIf fun frame)
   pub after_memory : (name : Name) (wire : ℕ) → Owns setting.widths frame name wire → layout.args ≤ wire
   pub before_next : (name : Name) (wire : ℕ) → Owns setting.widths frame name wire → wire < frame.next
   pub ifs_after_result : layout.frame ≤ frame.ifs

@@ -4,7 +4,6 @@
 #![tactic(auto)]
 
 mod body;
-mod conjunctions;
 mod entering;
 mod frames;
 mod laying;
@@ -17,8 +16,10 @@ mod scratch;
 mod sizes;
 mod workspace;
 
-pub use conjunctions::{ConjunctionLayout, conjunction_layout};
+pub use body::Body;
 pub use laying::layout;
 pub use measured::Measured;
-pub use measuring::measure;
+pub use measuring::{measure, need_within};
+pub use pairs::{callee_bound, running_bound};
 pub use regions::WireLayout;
+pub use sizes::{bits_of, bits_of_atom, bits_of_name, bits_of_path};

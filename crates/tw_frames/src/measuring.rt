@@ -199,7 +199,7 @@ fn measure_entry(alloc: Global, checked: &Checked<'_>, entry: Entry) -> Result<M
 }
 
 /// Refuses a count that is above its limit.
-fn need_within(counted: Counted, found: u64) -> Result<(), Fault>
+pub fn need_within(counted: Counted, found: u64) -> Result<(), Fault>
     ensures { Tries (within_limit counted found ∷ []) result }
 {
     if found > counted.limit() {

@@ -6,8 +6,6 @@ mod acting;
 mod gate;
 mod list;
 mod out;
-#[cfg(test)]
-mod tests;
 
 pub use acting::{apply, apply_list};
 pub use gate::{Gate, Level, TOFFOLI_T_COUNT};

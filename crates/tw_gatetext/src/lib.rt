@@ -7,18 +7,12 @@ mod file;
 mod gate_fits;
 mod gate_words;
 mod header;
-#[cfg(test)]
-mod inverse_tests;
 mod inverting;
 mod line_fault;
 mod line_out;
 mod numbers;
 mod pieces;
-#[cfg(test)]
-mod read_tests;
 mod reading;
-#[cfg(test)]
-mod tests;
 mod text_reading;
 mod writing;
 

@@ -5,8 +5,6 @@
 mod ground_fault;
 mod making;
 mod source;
-#[cfg(test)]
-mod tests;
 
 pub use ground_fault::GroundFault;
 pub use making::list_state;

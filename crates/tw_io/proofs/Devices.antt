@@ -28,11 +28,6 @@ appends_both (Some a) (Some b) None xs ys first second = absurd second
 appends_both (Some a) (Some b) (Some c) xs ys first second =
     second ∙ ap (λ (taken : List ℕ). taken ++ ys) first ∙ append_assoc a xs ys
 
--- xs and then nothing compose to xs
-pub appends_none : (a b c : Option (List ℕ)) (xs : List ℕ) → Appends a b xs → Appends b c [] → Appends a c xs
-appends_none a b c xs first second =
-    rw (append-nil xs) at (appends_both a b c xs [] first second)
-
 -- a prefix of xs is a prefix of a longer text
 pub appends_prefix_longer : (a b : Option (List ℕ)) (xs ys : List ℕ) → AppendsPrefix a b xs → AppendsPrefix a b (xs ++ ys)
 appends_prefix_longer a b xs ys part = record {

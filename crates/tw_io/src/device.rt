@@ -4,6 +4,9 @@ ghost use Rattle.tw_io.specs.Devices.{Takes, IsAtEnd, Appends, Rose};
 
 use thiserror::Error;
 
+/// The bytes of a buffer in front of a device: the most that one read asks for, and that a sink gathers.
+pub const BUFFER_LEN: usize = 65_536;
+
 /// A device fault: one read or one write failed. The device's error counter counts the faults.
 #[derive(Clone, Copy, Debug, Error)]
 #[error("device fault")]

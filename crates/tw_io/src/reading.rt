@@ -2,11 +2,8 @@
 ghost use Rattle.std.specs.Prelude.{◌≡◌, ◌+◌, ◌≤◌, IfOk, OnOk, IsErrOf, vec_len};
 ghost use Rattle.tw_io.specs.Devices.{Takes, TakesBetween, TakesExactly, IsAtEnd, CountsRead};
 
-use crate::device::{ReadError, Source};
+use crate::device::{BUFFER_LEN, ReadError, Source};
 use std::alloc::Global;
-
-// The bytes of the buffer on the stack: the most that one read asks for.
-const BUFFER_LEN: usize = 65_536;
 
 /// Reads all bytes that `source` has left. At most `limit + 1` bytes are taken off the source.
 ///

@@ -13,8 +13,6 @@ mod scanned;
 mod space;
 mod suffix;
 mod symbol;
-#[cfg(test)]
-mod tests;
 mod token;
 mod word;
 

@@ -1,2 +1,6 @@
-pub mod Circuits
-pub mod Correct
+pub mod Lowering
+pub mod Operands
+pub mod Simulation
+pub mod StateBits
+pub mod NameWires
+pub mod FrameWires

@@ -14,8 +14,6 @@ mod right_sides;
 mod simple;
 mod statements;
 mod take;
-#[cfg(test)]
-mod tests;
 mod types;
 
 pub use parsing::parse;

@@ -6,8 +6,6 @@ mod programs;
 mod progress;
 mod statements;
 mod terms;
-#[cfg(test)]
-mod tests;
 mod types;
 
 pub use programs::print_program;

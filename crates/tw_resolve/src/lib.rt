@@ -18,16 +18,12 @@ mod names_so_far;
 mod paths;
 mod recursion;
 mod resolved;
-#[cfg(test)]
-mod resolved_tests;
 mod sizes;
 mod statements;
 mod tables;
 mod target_table;
 mod target_types;
 mod targets;
-#[cfg(test)]
-mod tests;
 mod ty_sizes;
 mod type_rules;
 mod type_table;

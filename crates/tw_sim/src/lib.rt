@@ -5,8 +5,6 @@
 mod answer;
 mod lanes;
 mod lines;
-#[cfg(test)]
-mod tests;
 mod transpose;
 
 pub use answer::simulate;

@@ -40,6 +40,7 @@ pub mod EntryFunctions
 pub mod EntryNames
 pub mod TypedStates
 pub mod Permutations
+pub mod EncodingOnto
 pub mod EntryEncodings
 pub mod Appending
 pub mod CellBits

@@ -47,6 +47,14 @@ pub record Appends (at : ℕ) (more old new : List Bool) : Type 0 where
 abbrev pub IsInjectiveOn : ℕ → Setting → Side → FunTree → Type 0
 IsInjectiveOn wires setting side fun = (state other : State) → IsWellFormed state → IsWellFormed other → IsTypedAt setting fun (live_at side fun) state → IsTypedAt setting fun (live_at side fun) other → encoded_on wires setting side fun state ≡ encoded_on wires setting side fun other → Agree state other
 
+-- the encoding is onto: if bits have the memory of a state that is typed on a side, any bits for its names, and then zeros, they are the encoding
+-- of a state with that memory that is typed on the side
+abbrev pub IsOntoOn : ℕ → Setting → Side → FunTree → Type 0
+IsOntoOn wires setting side fun = (state : State) → IsTypedAt setting fun (live_at side fun) state → (bits : List Bool)
+    → length bits ≡ length (flat_map (name_bits setting.widths state.store) (names_at side fun))
+    → (other : State) × IsTypedAt setting fun (live_at side fun) other × (other.head ≡ state.head) × (other.cells ≡ state.cells)
+    × (encoded_on wires setting side fun other ≡ padded wires (memory_bits setting.widths (targets_in setting) state ++ bits))
+
 -- `free 3; 1 live list (2, @1); 2 free 0; 3 free 2; xs @1` is 11 0110 0000 0100 10 and a zero on 17 wires
 pub one_live_on_17_wires :
     padded 17 (memory_bits two_bits list_and_bool one_live ++ name_bits two_bits one_live.store (codes "xs"))

@@ -9,13 +9,9 @@ mod names;
 mod number_text;
 mod printing;
 mod reading;
-#[cfg(test)]
-mod reading_tests;
 mod renaming;
 mod state;
 mod state_fault;
-#[cfg(test)]
-mod tests;
 mod typing;
 mod value_text;
 

@@ -10,8 +10,6 @@ mod same_term;
 mod same_written;
 mod statement;
 mod term;
-#[cfg(test)]
-mod tests;
 mod written;
 
 pub use name::{Name, Path};

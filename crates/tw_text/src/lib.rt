@@ -11,8 +11,6 @@ mod limits;
 mod place;
 mod prefix;
 mod refusal;
-#[cfg(test)]
-mod tests;
 mod whole;
 
 pub use cut::{before, first_char, text_after};

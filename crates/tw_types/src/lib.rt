@@ -4,8 +4,6 @@
 
 mod coding;
 mod targets;
-#[cfg(test)]
-mod tests;
 mod types;
 mod values;
 mod widths;

@@ -17,6 +17,9 @@ returns-in-Compile g c = subst (λ (k : Command). Did g.K.Sink.taken g.K.Sink.fa
 pub returns-in-Run : goal.returns-in-Run
 returns-in-Run g c = subst (λ (k : Command). Did g.K.Sink.taken g.K.Sink.faults c.args.output.now c.run_program.new.output c.run_program.result (InputAnswer (request_of k) c.args.bytes.now)) (sym c.in-Run.is) c.run_program.ensures
 
+pub returns-in-Encode : goal.returns-in-Encode
+returns-in-Encode g c = subst (λ (k : Command). Did g.K.Sink.taken g.K.Sink.faults c.args.output.now c.encode.new.output c.encode.result (InputAnswer (request_of k) c.args.bytes.now)) (sym c.in-Encode.is) c.encode.ensures
+
 pub returns-in-Simulate : goal.returns-in-Simulate
 returns-in-Simulate g c = subst (λ (k : Command). Did g.K.Sink.taken g.K.Sink.faults c.args.output.now c.simulate.new.output c.simulate.result (InputAnswer (request_of k) c.args.bytes.now)) (sym c.in-Simulate.is) c.simulate.ensures
 

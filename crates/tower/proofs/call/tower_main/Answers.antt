@@ -1,5 +1,5 @@
 use Rattle.std.proofs.Common.{⊎_elim}
-use Rattle.tower.specs.Requests.{Format, Check, Compile, Run, Simulate, Invert}
+use Rattle.tower.specs.Requests.{Format, Check, Compile, Run, Encode, Simulate, Invert}
 use Rattle.tower.proofs.OneAnswer.{one_answer}
 use Rattle.tower.proofs.WhenEnded.{only_where, comes, usage_only, complete}
 use Rattle.tower.proofs.Promises.{promised}
@@ -26,6 +26,9 @@ pub returns-clause-ran : goal.returns-clause-ran
 returns-clause-ran g c =
     λ request asks ended.
     ⊎_elim (promised (Run request) _ _ _ c.args.words.now c.run.result c.run.ensures.answered asks) (stuck_run request _ _ _ c.args.words.now c.run.result c.run.ensures.answered asks) ended
+
+pub returns-clause-encoded : goal.returns-clause-encoded
+returns-clause-encoded g c = λ request. promised (Encode request) _ _ _ c.args.words.now c.run.result c.run.ensures.answered
 
 pub returns-clause-inverted : goal.returns-clause-inverted
 returns-clause-inverted g c = promised Invert _ _ _ c.args.words.now c.run.result c.run.ensures.answered

@@ -1,45 +1,26 @@
-use Rattle.std.proofs.Common.{ℕ, ◌+◌, ◌-◌, ◌<◌, List, [], ◌++◌, length, take, drop, Option, sym, ap, ◌∙◌, subst, take-append-drop, length-drop, rules, arith}
-use Rattle.std.proofs.Math.Seq.{take-add}
-use Rattle.std.proofs.lemmas.List.{take_rest}
+use Rattle.std.proofs.Common.{ℕ, ◌<◌, List, length, take, drop, Option, sym, take-append-drop, length-drop, arith}
 use Rattle.tw_io.specs.Devices.{Appends, AppendsProperPrefix}
-use Rattle.tw_io.proofs.Devices.{appends_both, appends_none}
 use Rattle.tw_io.proofs.writing.write_all.Goals as goal
 
--- a prefix of a piece was taken, then some bytes of its suffix
-sent_more : (a b c : Option (List ℕ)) (piece : List ℕ) (done count : ℕ) → Appends a b (take done piece) → Appends b c (take count (take (length piece - done) (drop done piece))) → Appends a c (take (done + count) piece)
-sent_more a b c piece done count first second =
-    let text = ap (take count) (take_rest piece done) in
-    let all = ap (λ (more : List ℕ). take done piece ++ more) text ∙ sym (take-add done count piece) in
-    subst (λ (sent : List ℕ). Appends a c sent) all (appends_both a b c _ _ first second)
-
--- a prefix of a piece was taken, then nothing
-sent_part : (a b c : Option (List ℕ)) (piece : List ℕ) (done : ℕ) → done < length piece → Appends a b (take done piece) → Appends b c [] → AppendsProperPrefix a c piece
-sent_part a b c piece done more first nothing = record {
-  taken = record {
-    prefix = take done piece;
-    suffix = drop done piece;
-    split = sym (take-append-drop done piece);
-    taken = appends_none a b c (take done piece) first nothing;
-  };
+-- fewer bytes of a piece than all were taken
+sent_part : (a b : Option (List ℕ)) (piece : List ℕ) (done : ℕ) → done < length piece → Appends a b (take done piece) → AppendsProperPrefix a b piece
+sent_part a b piece done more sent = record {
+  taken = record { prefix = take done piece; suffix = drop done piece; split = sym (take-append-drop done piece); taken = sent };
   proper = omega (arith, length-drop {A = ℕ});
 }
 
-pub loop-done-preserved : goal.loop-done-preserved
-loop-done-preserved g c = record {
-  sent = sent_more _ _ _ _ _ _ c.loop-done.invariant.sent c.in-Ok.ensures.bytes;
-  within = search rules;
-  steady = search rules;
-  untouched = search rules;
-}
+pub returns-else-write_prefix-piece-clause-unfinished :
+    goal.returns-else-write_prefix-piece-clause-unfinished
+returns-else-write_prefix-piece-clause-unfinished g c =
+    sent_part _ _ _ _ (omega (arith, c.write_prefix.ensures.within)) c.write_prefix.ensures.bytes
 
-pub returns-in-Err-clause-unfinished : goal.returns-in-Err-clause-unfinished
-returns-in-Err-clause-unfinished g c =
-    sent_part _ _ _ _ _ c.loop-done-test.true c.loop-done.invariant.sent c.in-Err.ensures.nothing
-
-pub returns-in-Err-clause-wrote : goal.returns-in-Err-clause-wrote
-returns-in-Err-clause-wrote g c = record {
-  whole = tt;
-  broken = (sent_part _ _ _ _ _ c.loop-done-test.true c.loop-done.invariant.sent c.in-Err.ensures.nothing).taken;
-  cause = search rules;
-  steady = search rules;
-}
+pub returns-else-write_prefix-piece-clause-wrote :
+    goal.returns-else-write_prefix-piece-clause-wrote
+returns-else-write_prefix-piece-clause-wrote g c =
+    let more : c.write_prefix.result < length c.args.piece.now = omega (arith, c.write_prefix.ensures.within) in
+    record {
+      whole = tt;
+      broken = (sent_part _ _ _ _ more c.write_prefix.ensures.bytes).taken;
+      cause = c.write_prefix.ensures.cause more;
+      steady = tt;
+    }

@@ -1,0 +1,9 @@
+pub mod Capping
+pub mod Stopped
+pub mod Exact
+pub mod Limits
+pub mod CheckedEntries
+pub mod Counted
+pub mod Shapes
+pub mod OneInventory
+pub mod Totals
